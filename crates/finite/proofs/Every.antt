@@ -1,0 +1,118 @@
+-- A test over 1..n says the same as its statement at each index, or at some index; and the turns of a loop that tests.
+-- Assumes nothing.
+use mathlib.Core.Path.{_≡_, refl, sym, _∙_, ap}
+use mathlib.Core.Logic.{_≢_}
+use mathlib.Core.Bool.{Bool, true, false, not, cond}
+use Prim.Native.Nat.{ℕ, zero, suc, _+_, _≤_, _<_}
+use native.Mathlib.Numerals.{add-one}
+use native.Mathlib.Omega.{arith}
+use Rattle.finite.specs.Tests.{same}
+use Rattle.finite.specs.Range.{every, some, first}
+use Rattle.finite.proofs.Cases.{byBool, byEq, clash}
+use Rattle.finite.proofs.Tests.{is-same, same-is, not-same}
+
+-- from the test to each index, and back
+pub every-at : (n : ℕ) (f : ℕ → Bool) → every n f ≡ true → (v : ℕ) → 1 ≤ v → v ≤ n → f v ≡ true
+unfolding every
+every-at zero f e v l u = absurd (omega arith)
+every-at (suc k) f e v l u = byBool (f (suc k))
+    (λ t. byEq v (suc k) (λ q. rw q t) (λ q. every-at k f (rw t at e) v l (omega arith)))
+    (λ t. clash (rw t at e) refl)
+
+pub is-every : (n : ℕ) (f : ℕ → Bool) → ((v : ℕ) → 1 ≤ v → v ≤ n → f v ≡ true) → every n f ≡ true
+unfolding every
+is-every zero f h = refl
+is-every (suc k) f h = rw (h (suc k) (omega arith) (omega arith)) (is-every k f (λ v l u. h v l (omega arith)))
+
+pub every-fails : (n v : ℕ) (f : ℕ → Bool) → 1 ≤ v → v ≤ n → f v ≡ false → every n f ≡ false
+every-fails n v f l u t = byBool (every n f) (λ e. clash (every-at n f e v l u) t) (λ e. e)
+
+pub every-same : (n : ℕ) (f g : ℕ → Bool) → ((v : ℕ) → 1 ≤ v → v ≤ n → f v ≡ g v) → every n f ≡ every n g
+unfolding every
+every-same zero f g e = refl
+every-same (suc k) f g e = rw (e (suc k) (omega arith) (omega arith), every-same k f g (λ v l u. e v l (omega arith)))
+
+-- where not each passes, one fails
+pub not-every : (n : ℕ) (f : ℕ → Bool) → every n f ≡ false → (v : ℕ) × (1 ≤ v) × (v ≤ n) × (f v ≡ false)
+unfolding every
+not-every zero f e = clash refl e
+not-every (suc k) f e = byBool (f (suc k))
+    (λ t. let r = not-every k f (rw t at e) in (r .0, r .1, omega (arith, r .2), r .3))
+    (λ t. (suc k, omega arith, omega arith, t))
+
+-- from some index to the test, and back
+pub some-at : (n : ℕ) (f : ℕ → Bool) → some n f ≡ true → (v : ℕ) × (1 ≤ v) × (v ≤ n) × (f v ≡ true)
+unfolding some
+some-at zero f e = clash e refl
+some-at (suc k) f e = byBool (f (suc k)) (λ t. (suc k, omega arith, omega arith, t))
+    (λ t. let r = some-at k f (rw t at e) in (r .0, r .1, omega (arith, r .2), r .3))
+
+pub is-some : (n v : ℕ) (f : ℕ → Bool) → 1 ≤ v → v ≤ n → f v ≡ true → some n f ≡ true
+unfolding some
+is-some zero v f l u t = absurd (omega arith)
+is-some (suc k) v f l u t = byEq v (suc k) (λ e. let q : f (suc k) ≡ true = rw e at t in rw q)
+    (λ d. byBool (f (suc k)) (λ q. rw q) (λ q. rw q (is-some k v f l (omega arith) t)))
+
+-- some passes just where not each fails
+pub some-every : (n : ℕ) (f : ℕ → Bool) → some n f ≡ not (every n (λ v. not (f v)))
+unfolding some every
+some-every zero f = refl
+some-every (suc k) f = byBool (f (suc k)) (λ t. rw t) (λ t. rw t (some-every k f))
+
+pub some-same : (n : ℕ) (f g : ℕ → Bool) → ((v : ℕ) → 1 ≤ v → v ≤ n → f v ≡ g v) → some n f ≡ some n g
+unfolding some
+some-same zero f g e = refl
+some-same (suc k) f g e = rw (e (suc k) (omega arith) (omega arith), some-same k f g (λ v l u. e v l (omega arith)))
+
+-- the lowest that passes: it passes, it is in the range, and no lower one passes
+pub first-is : (n : ℕ) (f : ℕ → Bool) → first n f ≢ 0 → (first n f ≤ n) × (f (first n f) ≡ true)
+unfolding first
+first-is zero f d = absurd (d refl)
+first-is (suc k) f d = byEq (first k f) 0
+    (λ e. byBool (f (suc k)) (λ t. rw (is-same e, t) (omega arith, t)) (λ t. absurd (d (rw (is-same e, t)))))
+    (λ q. let r = first-is k f q in rw (not-same q) (omega (arith, r .0), r .1))
+
+pub first-none : (n : ℕ) (f : ℕ → Bool) → first n f ≡ 0 → (v : ℕ) → 1 ≤ v → v ≤ n → f v ≡ false
+unfolding first
+first-none zero f e v l u = absurd (omega arith)
+first-none (suc k) f e v l u = byEq (first k f) 0
+    (λ q. byEq v (suc k)
+    (λ z. byBool (f v) (λ t. let t₂ : f (suc k) ≡ true = rw z at t in absurd (last q t₂)) (λ t. t))
+    (λ z. first-none k f q v l (omega arith)))
+    (λ q. absurd (q (rw (not-same q) at e)))
+  where
+    last : first k f ≡ 0 → f (suc k) ≡ true → ⊥
+    last q t = let z : suc k ≡ 0 = rw (is-same q, t) at e in omega arith
+
+pub first-low : (n : ℕ) (f : ℕ → Bool) (v : ℕ) → 1 ≤ v → v < first n f → f v ≡ false
+unfolding first
+first-low zero f v l u = absurd (omega arith)
+first-low (suc k) f v l u = byEq (first k f) 0
+    (λ q. byBool (f (suc k)) (λ t. let u₂ : v < suc k = rw (is-same q, t) at u in first-none k f q v l (omega arith))
+    (λ t. let u₂ : v < 0 = rw (is-same q, t) at u in absurd (omega arith)))
+    (λ q. first-low k f v l (rw (not-same q) at u))
+
+-- the turns of a loop that tests each of 1..n: r is the test at v + 1
+pub every-start : (f : ℕ → Bool) → every 0 f ≡ true
+unfolding every
+every-start f = refl
+
+pub every-turn : (f : ℕ → Bool) (v : ℕ) (r : Bool) → every v f ≡ true → r ≡ f (v + 1) → r ≡ true → every (v + 1) f ≡ true
+unfolding every
+every-turn f v r h e t = let q : f (v + 1) ≡ true = sym e ∙ t in rw (add-one) (rw (← add-one, q, h))
+
+pub every-stop : (f : ℕ → Bool) (n v : ℕ) (r : Bool) → v < n → r ≡ f (v + 1) → r ≡ false → false ≡ every n f
+every-stop f n v r l e t = sym (every-fails n (v + 1) f (omega arith) (omega arith) (sym e ∙ t))
+
+pub every-turn-not : (f : ℕ → Bool) (v : ℕ) (r : Bool) → every v f ≡ true → r ≡ f (v + 1) → not r ≡ false → every (v + 1) f ≡ true
+every-turn-not f v true h e t = every-turn f v true h e refl
+every-turn-not f v false h e t = clash refl t
+
+pub every-stop-not : (f : ℕ → Bool) (n v : ℕ) (r : Bool) → v < n → r ≡ f (v + 1) → not r ≡ true → false ≡ every n f
+every-stop-not f n v true l e t = clash t refl
+every-stop-not f n v false l e t = every-stop f n v false l e refl
+
+pub every-done : (f : ℕ → Bool) (n v : ℕ) → v ≤ n → n ≤ v → every v f ≡ true → true ≡ every n f
+every-done f n v a b h = let e : v ≡ n = omega arith in sym (rw e at h)
+
+pub ruleset every-loop = (every-start, every-turn, every-stop, every-turn-not, every-stop-not, every-done)

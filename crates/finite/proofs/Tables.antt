@@ -1,0 +1,71 @@
+-- The laws of a filled table: what it holds at each place, and the turns of a loop that fills one from the front.
+-- Assumes nothing.
+use Prim.Native.Nat.{ℕ, zero, suc, _+_, _≤_, _<_}
+use mathlib.Core.Path.{_≡_, refl, sym, ap, _∙_, fun-ext}
+use mathlib.Core.List.{List}
+use lib.ListN.{length, getD, set, length-set}
+use lib.Seq.{getD-set-same, getD-set-other, ext-getD}
+use mir.Val.{Fits}
+use mir.Syntax.{w32, w64}
+use native.Mathlib.Omega.{arith}
+use native.Mathlib.Numerals.{add-one}
+use Rattle.finite.specs.Tables.{at, filled}
+use Rattle.finite.proofs.Cases.{byEq, byOrder}
+
+pub length-filled : (k : ℕ) (l : List ℕ) (f : ℕ → ℕ) → length (filled k l f) ≡ length l
+unfolding filled
+length-filled zero l f = refl
+length-filled (suc k) l f = rw length-set (length-filled k l f)
+
+-- f at 1..k, what it held elsewhere
+pub filled-in : (k : ℕ) (l : List ℕ) (f : ℕ → ℕ) (v : ℕ) → 1 ≤ v → v ≤ k → k < length l → at (filled k l f) v ≡ f v
+unfolding filled
+filled-in zero l f v a b h = absurd (omega arith)
+filled-in (suc k) l f v a b h = byEq v (suc k)
+    (λ e. rw e (getD-set-same (filled k l f) (suc k) (f (suc k)) 0 (omega (arith, length-filled k l f))))
+    (λ d. getD-set-other (filled k l f) (suc k) v (f (suc k)) 0 d ∙ filled-in k l f v a (omega arith) (omega arith))
+
+pub filled-out : (k : ℕ) (l : List ℕ) (f : ℕ → ℕ) (v : ℕ) → k < v → at (filled k l f) v ≡ at l v
+unfolding filled
+filled-out zero l f v h = refl
+filled-out (suc k) l f v h = getD-set-other (filled k l f) (suc k) v (f (suc k)) 0 (λ e. omega arith) ∙ filled-out k l f v (omega arith)
+
+pub filled-zero : (k : ℕ) (l : List ℕ) (f : ℕ → ℕ) → at (filled k l f) 0 ≡ at l 0
+unfolding filled
+filled-zero zero l f = refl
+filled-zero (suc k) l f = getD-set-other (filled k l f) (suc k) 0 (f (suc k)) 0 (λ e. omega arith) ∙ filled-zero k l f
+
+-- the only list that holds f at 1..n and is as l elsewhere
+pub filled-ext : (n : ℕ) (l m : List ℕ) (f : ℕ → ℕ) → n < length l → length m ≡ length l → ((v : ℕ) → 1 ≤ v → v ≤ n → at m v ≡ f v)
+    → ((v : ℕ) → n < v → at m v ≡ at l v) → at m 0 ≡ at l 0 → m ≡ filled n l f
+filled-ext n l m f b e inside outside none = ext-getD 0 m (filled n l f) (e ∙ sym (length-filled n l f)) (λ v _. byEq v 0
+    (λ q. rw q (none ∙ sym (filled-zero n l f)))
+    (λ d. byOrder n v (λ g. outside v g ∙ sym (filled-out n l f v g))
+    (λ q. inside v (omega arith) (omega arith) ∙ sym (filled-in n l f v (omega arith) (omega arith) b))
+    (λ g. inside v (omega arith) (omega arith) ∙ sym (filled-in n l f v (omega arith) (omega arith) b))))
+
+-- a table of zeros filled with a function that is 0 outside 1..n holds that function
+pub table-is : (n : ℕ) (l : List ℕ) (f : ℕ → ℕ) → n < length l → ((v : ℕ) → at l v ≡ 0) → f 0 ≡ 0 → ((v : ℕ) → n < v → f v ≡ 0) → at (filled n l f) ≡ f
+table-is n l f b z f₀ out = fun-ext (λ v. byEq v 0
+    (λ q. rw q (filled-zero n l f ∙ z 0 ∙ sym f₀))
+    (λ d. byOrder n v (λ g. filled-out n l f v g ∙ z v ∙ sym (out v g))
+    (λ q. filled-in n l f v (omega arith) (omega arith) b)
+    (λ g. filled-in n l f v (omega arith) (omega arith) b)))
+
+-- the turns of a loop that fills a table from the front
+pub filled-none : (l : List ℕ) (f : ℕ → ℕ) → l ≡ filled 0 l f
+unfolding filled
+filled-none l f = refl
+
+pub filled-more : (k : ℕ) (l m : List ℕ) (f : ℕ → ℕ) (x : ℕ) → m ≡ filled k l f → x ≡ f (k + 1) → set m (k + 1) x ≡ filled (k + 1) l f
+unfolding filled
+filled-more k l m f x e q = rw (e, q, add-one)
+
+pub filled-end : (n v : ℕ) (l m : List ℕ) (f : ℕ → ℕ) → v ≤ n → n ≤ v → m ≡ filled v l f → m ≡ filled n l f
+filled-end n v l m f a b h = let e : v ≡ n = omega arith in rw e at h
+
+pub ruleset fill-loop = (filled-none, filled-more, filled-end)
+
+-- an entry of a table of `u32` fits a `usize`: closes the cast of `xs[i] as usize`
+pub entry-fits : (l : List ℕ) (i : ℕ) → ((k : ℕ) → Fits w32 (getD l k 0)) → Fits w64 (getD l i 0)
+entry-fits l i h = omega (arith, h i)

@@ -1,0 +1,4 @@
+pub mod Tests
+pub mod Range
+pub mod Least
+pub mod Tables

@@ -1,0 +1,2 @@
+pub mod GeneTrees
+pub mod Mapping

@@ -1,0 +1,4 @@
+pub mod Climbing
+pub mod Networks
+pub mod Switchings
+pub mod Components
