@@ -9,8 +9,10 @@ use mir.Val.{Fits}
 use mir.Syntax.{w32, w64}
 use native.Mathlib.Omega.{arith}
 use native.Mathlib.Numerals.{add-one}
-use Rattle.finite.specs.Tables.{at, filled}
+use Rattle.finite.specs.Tests.{under}
+use Rattle.finite.specs.Tables.{at, filled, within}
 use Rattle.finite.proofs.Cases.{byEq, byOrder}
+use Rattle.finite.proofs.Tests.{is-under, not-under, and-no-r}
 
 pub length-filled : (k : ℕ) (l : List ℕ) (f : ℕ → ℕ) → length (filled k l f) ≡ length l
 unfolding filled
@@ -44,13 +46,26 @@ filled-ext n l m f b e inside outside none = ext-getD 0 m (filled n l f) (e ∙ 
     (λ q. inside v (omega arith) (omega arith) ∙ sym (filled-in n l f v (omega arith) (omega arith) b))
     (λ g. inside v (omega arith) (omega arith) ∙ sym (filled-in n l f v (omega arith) (omega arith) b))))
 
--- a table of zeros filled with a function that is 0 outside 1..n holds that function
-pub table-is : (n : ℕ) (l : List ℕ) (f : ℕ → ℕ) → n < length l → ((v : ℕ) → at l v ≡ 0) → f 0 ≡ 0 → ((v : ℕ) → n < v → f v ≡ 0) → at (filled n l f) ≡ f
-table-is n l f b z f₀ out = fun-ext (λ v. byEq v 0
-    (λ q. rw q (filled-zero n l f ∙ z 0 ∙ sym f₀))
-    (λ d. byOrder n v (λ g. filled-out n l f v g ∙ z v ∙ sym (out v g))
-    (λ q. filled-in n l f v (omega arith) (omega arith) b)
-    (λ g. filled-in n l f v (omega arith) (omega arith) b)))
+-- f at 1..n, 0 elsewhere
+pub within-in : (n : ℕ) (f : ℕ → ℕ) (v : ℕ) → 1 ≤ v → v ≤ n → within n f v ≡ f v
+unfolding within
+within-in n f v a b = rw (is-under {m = 0} {n = v} (omega arith), is-under {m = v} {n = suc n} (omega arith))
+
+pub within-zero : (n : ℕ) (f : ℕ → ℕ) → within n f 0 ≡ 0
+unfolding within
+within-zero n f = rw (not-under {m = 0} {n = 0} (omega arith))
+
+pub within-out : (n : ℕ) (f : ℕ → ℕ) (v : ℕ) → n < v → within n f v ≡ 0
+unfolding within
+within-out n f v l = rw (and-no-r (under 0 v) (under v (suc n)) (not-under {m = v} {n = suc n} (omega arith)))
+
+-- a table of zeros filled at 1..n
+pub filled-within : (n : ℕ) (l : List ℕ) (f : ℕ → ℕ) → n < length l → ((v : ℕ) → at l v ≡ 0) → at (filled n l f) ≡ within n f
+filled-within n l f b z = fun-ext (λ v. byEq v 0
+    (λ q. rw q (filled-zero n l f ∙ z 0 ∙ sym (within-zero n f)))
+    (λ d. byOrder n v (λ g. filled-out n l f v g ∙ z v ∙ sym (within-out n f v g))
+    (λ q. filled-in n l f v (omega arith) (omega arith) b ∙ sym (within-in n f v (omega arith) (omega arith)))
+    (λ g. filled-in n l f v (omega arith) (omega arith) b ∙ sym (within-in n f v (omega arith) (omega arith)))))
 
 -- the turns of a loop that fills a table from the front
 pub filled-none : (l : List ℕ) (f : ℕ → ℕ) → l ≡ filled 0 l f

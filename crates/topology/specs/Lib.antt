@@ -2,3 +2,4 @@ pub mod Climbing
 pub mod Networks
 pub mod Switchings
 pub mod Components
+pub mod Tables
