@@ -1,0 +1,204 @@
+-- Reading a line finds one just where the bytes are the fields of five numbers and a line feed: by induction on the fields that are left
+-- (`rest-is`), each of which is a number's columns or is malformed. Then the turns of the loops that read and write a line.
+-- Assumes nothing.
+use Prim.Native.Nat.{ℕ, zero, suc, min, _+_, _-_, _*_, _≤_, _<_}
+use mathlib.Core.Path.{_≡_, refl, sym, ap, _∙_, subst}
+use mathlib.Core.Bool.{Bool, true, false, cond}
+use mathlib.Core.List.{List, [], _∷_, _++_, append-assoc, append-nil}
+use lib.ListN.{length, getD, take, drop, set, replicate, length-append, length-take, length-drop, length-set, List·getD-eq-default}
+use lib.Seq.{take-nil, take-take, drop-drop, getD-take, getD-drop, take-add, take-at, drop-at, take-all, take-suc, take-suc-set, drop-cons, set-at, append-snoc}
+use lib.Dec.{eqb, lit<, lit≤}
+use native.Mathlib.Nat.{add-zero, zero-add, suc-add, min-le-right}
+use native.Mathlib.Numerals.{add-one}
+use native.Mathlib.Omega.{arith}
+use borrow.Author.Tests.{eq-eqb, ne-eqb, eqb-true, eqb-false}
+use borrow.Rule.Slice.PartMut.{putMid}
+use Rattle.finite.proofs.Cases.{byBool}
+use Rattle.columns.specs.Fields.{columns, six, spells, fieldAt, FieldIs}
+use Rattle.columns.specs.Lines.{fieldCount, lineLength, fieldsOf, lineOf, Small, malformed, endAt, andThen, restAt, lineAt, LineIs, written, put}
+use Rattle.columns.specs.declared.Cursor.{Cursor}
+use Rattle.columns.specs.declared.Field.{Field}
+use Rattle.columns.specs.declared.Field.the-variants.{Number, Malformed as noNumber}
+use Rattle.columns.specs.declared.End.{End}
+use Rattle.columns.specs.declared.End.the-variants.{After, Malformed}
+use Rattle.columns.specs.declared.Reading.{Reading}
+use Rattle.columns.proofs.Columns.{length-columns}
+use Rattle.columns.proofs.Fields.{field-is, columns-spelled, spelled-columns, one-number}
+use Rattle.columns.proofs.Writing.{lent, put-written, length-written}
+
+-- the bytes of fields and of a line
+length-fields : (k : ℕ) (ns : List ℕ) → length (fieldsOf k ns) ≡ 6 * k
+unfolding fieldsOf
+length-fields zero ns = refl
+length-fields (suc k) ns = rw (length-append, length-columns, length-fields k ns) (omega arith)
+
+pub length-line : (ns : List ℕ) → length (lineOf ns) ≡ lineLength
+unfolding lineOf
+length-line ns = rw (length-append, length-fields fieldCount ns)
+
+-- the first field and the others
+fields-head : (k : ℕ) (ns : List ℕ) → fieldsOf (suc k) ns ≡ columns (getD ns 0 0) ++ fieldsOf k (drop 1 ns)
+unfolding fieldsOf
+fields-head zero ns = sym (append-nil (columns (getD ns 0 0)))
+fields-head (suc k) ns =
+    let e : getD (drop 1 ns) k 0 ≡ getD ns (suc k) 0 = getD-drop 1 ns k 0 ∙ ap (λ (j : ℕ). getD ns j 0) (omega arith) in
+    rw (fields-head k ns, e) (append-assoc (columns (getD ns 0 0)) (fieldsOf k (drop 1 ns)) (columns (getD ns (suc k) 0)))
+
+-- numbers that have fields, one by one
+small-cons : (n : ℕ) (ns : List ℕ) → n < 1000000 → Small ns → Small (n ∷ ns)
+small-cons n ns h s = record { small = at }
+  where
+    at : (i : ℕ) → getD (n ∷ ns) i 0 < 1000000
+    at zero = h
+    at (suc i) = s .small i
+
+small-tail : (ns : List ℕ) → Small ns → Small (drop 1 ns)
+small-tail [] s = s
+small-tail (n ∷ ns) s = record { small = λ i. s .small (suc i) }
+
+small-nil : Small []
+small-nil = record { small = λ i. lit< tt }
+
+-- n bytes, then m bytes
+drop-take : (j m : ℕ) (l : List ℕ) → drop j (take (j + m) l) ≡ take m (drop j l)
+drop-take zero m l = rw zero-add
+drop-take (suc j) m [] = simp (suc-add, take-nil)
+drop-take (suc j) m (x ∷ xs) = rw suc-add (drop-take j m xs)
+
+more : (s p r : List ℕ) (at m : ℕ) → six s at ≡ p → take m (drop (at + 6) s) ≡ r → take (6 + m) (drop at s) ≡ p ++ r
+more s p r at m ep er = take-add 6 m (drop at s) ∙ rw (drop-drop, ep, er)
+
+front : (s r : List ℕ) (at m n : ℕ) → take (6 + m) (drop at s) ≡ columns n ++ r → six s at ≡ columns n
+front s r at m n e = sym (take-take 6 (6 + m) (drop at s) (omega arith)) ∙ ap (λ (l : List ℕ). take 6 l) e ∙ take-at (columns n) r 6 (length-columns n)
+
+back : (s r : List ℕ) (at m n : ℕ) → take (6 + m) (drop at s) ≡ columns n ++ r → take m (drop (at + 6) s) ≡ r
+back s r at m n e = rw (← drop-drop 6 at s, ← drop-take 6 m (drop at s), e) (drop-at (columns n) r 6 (length-columns n))
+
+-- a byte that is not 0 stands within the text
+one-byte : (s : List ℕ) (q : ℕ) → getD s q 0 ≡ 10 → take 1 (drop q s) ≡ 10 ∷ []
+one-byte [] q e = absurd (omega arith)
+one-byte (x ∷ xs) zero e = ap (λ (b : ℕ). b ∷ []) e
+one-byte (x ∷ xs) (suc q) e = one-byte xs q e
+
+-- the fields of the first k numbers, and the line feed
+abbrev rest : ℕ → List ℕ → List ℕ
+rest k ms = fieldsOf k ms ++ (10 ∷ [])
+
+rest-head : (k : ℕ) (ms : List ℕ) → rest (suc k) ms ≡ columns (getD ms 0 0) ++ rest k (drop 1 ms)
+rest-head k ms = rw (fields-head k ms) (append-assoc (columns (getD ms 0 0)) (fieldsOf k (drop 1 ms)) (10 ∷ []))
+
+six-more : (k : ℕ) → 6 * suc k + 1 ≡ 6 + (6 * k + 1)
+six-more k = omega arith
+
+-- what is left of a line, k fields and the line feed, is that of the numbers found, which follow ns; or it is no such line
+abbrev EndIs : ℕ → List ℕ → ℕ → List ℕ → List ℕ → End → Type 0
+EndIs k s at ns l (After c) = (ms : List ℕ) × (l ≡ ns ++ ms) × Small ms × (take (6 * k + 1) (drop at s) ≡ rest k ms) × (c .at ≡ at + (6 * k + 1))
+EndIs k s at ns l Malformed = (ms : List ℕ) → Small ms → take (6 * k + 1) (drop at s) ≡ rest k ms → ⊥
+
+abbrev RestIs : ℕ → List ℕ → ℕ → List ℕ → Reading → Type 0
+RestIs k s at ns r = EndIs k s at ns (r .line) (r .end)
+
+end-is : (s : List ℕ) (at : ℕ) (ns : List ℕ) → RestIs 0 s at ns (endAt s at ns)
+unfolding endAt malformed fieldsOf
+end-is s at ns = byBool (eqb (getD s at 0) 10) (λ e. rw e ([], sym (append-nil ns), small-nil, one-byte s at (eqb-true _ _ e), refl)) (λ e. rw e (none e))
+  where
+    none : eqb (getD s at 0) 10 ≡ false → (ms : List ℕ) → Small ms → take (6 * 0 + 1) (drop at s) ≡ 10 ∷ [] → ⊥
+    none e ms h x = eqb-false _ _ e (ap (λ (k : ℕ). getD s k 0) (sym (add-zero at)) ∙ sym (getD-take 1 (drop at s) 0 0 (lit< tt) ∙ getD-drop at s 0 0) ∙ ap (λ (b : List ℕ). getD b 0 0) x)
+
+-- one field more
+field-more : (k : ℕ) (s : List ℕ) (at : ℕ) (ns : List ℕ) (n : ℕ) → n < 1000000 → spells (six s at) n ≡ true → (r : Reading)
+    → RestIs k s (at + 6) (ns ++ (n ∷ [])) r → RestIs (suc k) s at ns r
+field-more k s at ns n h e r = go (r .end)
+  where
+    go : (d : End) → EndIs k s (at + 6) (ns ++ (n ∷ [])) (r .line) d → EndIs (suc k) s at ns (r .line) d
+    go (After c) (ms, el, sm, et, ec) = (
+      n ∷ ms,
+      el ∙ append-assoc ns (n ∷ []) ms,
+      small-cons n ms h sm,
+      rw (six-more k, rest-head k (n ∷ ms)) (more s (columns n) (rest k ms) at (6 * k + 1) (spelled-columns (six s at) n e) et),
+      omega (arith, ec),
+    )
+    go Malformed none = λ ms sm et. none (drop 1 ms) (small-tail ms sm) (back s (rest k (drop 1 ms)) at (6 * k + 1) (getD ms 0 0) (rw (six-more k, rest-head k ms) at et))
+
+no-field : (k : ℕ) (s : List ℕ) (at : ℕ) (ns : List ℕ) → FieldIs s at noNumber → RestIs (suc k) s at ns malformed
+unfolding malformed
+no-field k s at ns none ms sm et =
+    none (getD ms 0 0) (sm .small 0) (columns-spelled (six s at) (getD ms 0 0) (front s (rest k (drop 1 ms)) at (6 * k + 1) (getD ms 0 0) (rw (six-more k, rest-head k ms) at et)))
+
+rest-is : (k : ℕ) (s : List ℕ) (at : ℕ) (ns : List ℕ) → RestIs k s at ns (restAt k s at ns)
+unfolding restAt
+rest-is zero s at ns = end-is s at ns
+rest-is (suc k) s at ns = go (fieldAt s at) (field-is s at) (λ q n. rest-is k s q (ns ++ (n ∷ [])))
+  where
+    go : (r : Field) → FieldIs s at r → ((q n : ℕ) → RestIs k s q (ns ++ (n ∷ [])) (restAt k s q (ns ++ (n ∷ []))))
+        → RestIs (suc k) s at ns (andThen r (λ n c. restAt k s (c .at) (ns ++ (n ∷ []))))
+    go (Number n c) (h, e, q) ih = rw q (field-more k s at ns n h e (restAt k s (at + 6) (ns ++ (n ∷ []))) (ih (at + 6) n))
+    go noNumber f ih = no-field k s at ns f
+
+-- a line is found just where there is one
+pub line-is : (s : List ℕ) (at : ℕ) → LineIs s at (lineAt s at .line) (lineAt s at .end)
+unfolding lineAt lineOf
+line-is s at = go (lineAt s at .end) (rest-is fieldCount s at [])
+  where
+    go : (d : End) → EndIs fieldCount s at [] (lineAt s at .line) d → LineIs s at (lineAt s at .line) d
+    go (After c) (ms, el, sm, et, ec) = rw el (sm, et, ec)
+    go Malformed none = none
+
+-- a line that is found stands within the text
+pub line-room : (s : List ℕ) (at : ℕ) (ns : List ℕ) → take lineLength (drop at s) ≡ lineOf ns → at + lineLength ≤ length s
+line-room s at ns t =
+    let l : min lineLength (length s - at) ≡ lineLength = simp (length-take, length-drop, length-line) at (ap length t) in
+    omega (arith, min-le-right lineLength (length s - at))
+
+-- the turns of the loop that reads: the rest of the line, from the fields read so far
+pub read-turn : (s : List ℕ) (q i n : ℕ) (l : List ℕ) (r : Field) (c : Cursor) → i < fieldCount → length l ≡ fieldCount → r ≡ fieldAt s q → r ≡ Number n c
+    → restAt (fieldCount - i) s q (take i l) ≡ restAt (fieldCount - (i + 1)) s (c .at) (take (i + 1) (set l i n))
+unfolding restAt
+read-turn s q i n l r c h e er ec =
+    let k : fieldCount - i ≡ suc (fieldCount - (i + 1)) = omega arith in
+    rw (k, ← er, ec, add-one i, take-suc-set l i n (omega arith))
+
+pub read-stop : (s : List ℕ) (q i : ℕ) (l : List ℕ) (r : Field) → i < fieldCount → r ≡ fieldAt s q → r ≡ noNumber → restAt (fieldCount - i) s q l ≡ malformed
+unfolding restAt
+read-stop s q i l r h er en =
+    let k : fieldCount - i ≡ suc (fieldCount - (i + 1)) = omega arith in
+    rw (k, ← er, en)
+
+pub read-done : (s : List ℕ) (q i : ℕ) (l : List ℕ) → i ≤ fieldCount → fieldCount ≤ i → length l ≡ fieldCount → restAt (fieldCount - i) s q (take i l) ≡ endAt s q l
+unfolding restAt
+read-done s q i l a b e =
+    let k : i ≡ fieldCount = omega arith in
+    rw (k, take-all fieldCount l (omega arith))
+
+pub line-feed : (s : List ℕ) (at : ℕ) (ns : List ℕ) → getD s at 0 ≡ 10 → record { line = ns; end = After (record { at = at + 1 }) } ≡ endAt s at ns
+unfolding endAt
+line-feed s at ns e = rw (eq-eqb _ _ e)
+
+pub no-line-feed : (s : List ℕ) (at : ℕ) (ns : List ℕ) (r : Reading) → r ≡ malformed → (getD s at 0 ≡ 10 → ⊥) → r ≡ endAt s at ns
+unfolding endAt
+no-line-feed s at ns r e d = rw (ne-eqb _ _ d, e)
+
+pub past-end : (s : List ℕ) (at : ℕ) (ns : List ℕ) (r : Reading) → r ≡ malformed → length s ≤ at → r ≡ endAt s at ns
+past-end s at ns r e l = no-line-feed s at ns r e (λ q. omega (arith, List·getD-eq-default s 0 {n = at} l))
+
+-- the turn of the loop that writes: the part from the next field on is lent, and comes back with the field written
+pub write-turn : (d out y line : List ℕ) (at i : ℕ) → at ≡ 6 * i → i < fieldCount → lineLength ≤ length d → length out ≡ length d
+    → out ≡ written d (fieldsOf i line) → y ≡ written (take (length out - at) (drop at out)) (columns (getD line i 0))
+    → putMid at (length out - at) out y ≡ written d (fieldsOf (i + 1) line)
+unfolding fieldsOf
+write-turn d out y line at i ea h room eo e ey =
+    let step : put out at (columns (getD line i 0)) ≡ written d (fieldsOf i line ++ columns (getD line i 0)) =
+    rw e (put-written d (fieldsOf i line) (columns (getD line i 0)) at (ea ∙ sym (length-fields i line))) in
+    lent out y at (columns (getD line i 0)) (omega arith) ey ∙ step ∙ rw (add-one i)
+
+pub write-room : (d out line : List ℕ) (i : ℕ) → i ≤ fieldCount → lineLength ≤ length d → out ≡ written d (fieldsOf i line) → length out ≡ length d
+write-room d out line i h room e = ap length e ∙ length-written d (fieldsOf i line) (omega (arith, length-fields i line))
+
+pub write-done : (d out line : List ℕ) (i : ℕ) → i ≤ fieldCount → fieldCount ≤ i → lineLength ≤ length d
+    → out ≡ written d (fieldsOf i line) → set out (6 * fieldCount) 10 ≡ written d (lineOf line)
+unfolding written lineOf
+write-done d out line i a b room e =
+    let k : i ≡ fieldCount = omega arith in
+    let n : length (fieldsOf fieldCount line) ≡ 6 * fieldCount = length-fields fieldCount line in
+    rw (e, k, length-append, n, drop-cons d (6 * fieldCount) 0 (omega arith), set-at (fieldsOf fieldCount line) _ (drop lineLength d) 10 (6 * fieldCount) n)
+    (sym (append-snoc (fieldsOf fieldCount line) 10 (drop lineLength d)))
