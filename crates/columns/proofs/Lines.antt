@@ -13,7 +13,7 @@ use native.Mathlib.Numerals.{add-one}
 use native.Mathlib.Omega.{arith}
 use borrow.Author.Tests.{eq-eqb, ne-eqb, eqb-true, eqb-false}
 use borrow.Rule.Slice.PartMut.{putMid}
-use Rattle.finite.proofs.Cases.{byBool}
+use Rattle.finite.proofs.Cases.{byBool, byEq}
 use Rattle.columns.specs.Fields.{columns, six, spells, fieldAt, FieldIs}
 use Rattle.columns.specs.Lines.{fieldCount, lineLength, fieldsOf, lineOf, Small, malformed, endAt, andThen, restAt, lineAt, LineIs, written, put}
 use Rattle.columns.specs.declared.Cursor.{Cursor}
@@ -144,6 +144,26 @@ line-is s at = go (lineAt s at .end) (rest-is fieldCount s at [])
     go (After c) (ms, el, sm, et, ec) = rw el (sm, et, ec)
     go Malformed none = none
 
+-- two lists of numbers with the same line have the same fields
+one-fields : (k : ℕ) (ms ns : List ℕ) → Small ms → Small ns → fieldsOf k ms ≡ fieldsOf k ns → (i : ℕ) → i < k → getD ms i 0 ≡ getD ns i 0
+unfolding fieldsOf
+one-fields zero ms ns sm sn e i l = absurd (omega arith)
+one-fields (suc k) ms ns sm sn e i l =
+    let front-m : take (6 * k) (fieldsOf k ms ++ columns (getD ms k 0)) ≡ fieldsOf k ms = take-at (fieldsOf k ms) (columns (getD ms k 0)) (6 * k) (length-fields k ms) in
+    let front-n : take (6 * k) (fieldsOf k ns ++ columns (getD ns k 0)) ≡ fieldsOf k ns = take-at (fieldsOf k ns) (columns (getD ns k 0)) (6 * k) (length-fields k ns) in
+    let back-m : drop (6 * k) (fieldsOf k ms ++ columns (getD ms k 0)) ≡ columns (getD ms k 0) = drop-at (fieldsOf k ms) (columns (getD ms k 0)) (6 * k) (length-fields k ms) in
+    let back-n : drop (6 * k) (fieldsOf k ns ++ columns (getD ns k 0)) ≡ columns (getD ns k 0) = drop-at (fieldsOf k ns) (columns (getD ns k 0)) (6 * k) (length-fields k ns) in
+    byEq i k
+    (λ q. rw q (one-number (columns (getD ms k 0)) (getD ms k 0) (getD ns k 0) (sm .small k) (sn .small k) (columns-spelled _ _ refl)
+    (columns-spelled _ _ (sym back-m ∙ ap (λ (x : List ℕ). drop (6 * k) x) e ∙ back-n))))
+    (λ q. one-fields k ms ns sm sn (sym front-m ∙ ap (λ (x : List ℕ). take (6 * k) x) e ∙ front-n) i (omega arith))
+
+pub one-line : (ms ns : List ℕ) → Small ms → Small ns → lineOf ms ≡ lineOf ns → (i : ℕ) → i < fieldCount → getD ms i 0 ≡ getD ns i 0
+unfolding lineOf
+one-line ms ns sm sn e = one-fields fieldCount ms ns sm sn
+    (sym (take-at (fieldsOf fieldCount ms) (10 ∷ []) (6 * fieldCount) (length-fields fieldCount ms)) ∙ ap (λ (x : List ℕ). take (6 * fieldCount) x) e
+    ∙ take-at (fieldsOf fieldCount ns) (10 ∷ []) (6 * fieldCount) (length-fields fieldCount ns))
+
 -- a line that is found stands within the text
 pub line-room : (s : List ℕ) (at : ℕ) (ns : List ℕ) → take lineLength (drop at s) ≡ lineOf ns → at + lineLength ≤ length s
 line-room s at ns t =
@@ -202,3 +222,47 @@ write-done d out line i a b room e =
     let n : length (fieldsOf fieldCount line) ≡ 6 * fieldCount = length-fields fieldCount line in
     rw (e, k, length-append, n, drop-cons d (6 * fieldCount) 0 (omega arith), set-at (fieldsOf fieldCount line) _ (drop lineLength d) 10 (6 * fieldCount) n)
     (sym (append-snoc (fieldsOf fieldCount line) 10 (drop lineLength d)))
+
+-- every line that is read has its number of fields, each of a number below 1,000,000, and a malformed one has zeros
+length-rest : (k : ℕ) (s : List ℕ) (at : ℕ) (ns : List ℕ) → length ns + k ≡ fieldCount → length (restAt k s at ns .line) ≡ fieldCount
+unfolding restAt endAt malformed
+length-rest zero s at ns e = byBool (eqb (getD s at 0) 10) (λ t. rw t (omega arith)) (λ t. rw t)
+length-rest (suc k) s at ns e = go (fieldAt s at) (λ q n. length-rest k s q (ns ++ (n ∷ [])) (rw length-append (omega arith)))
+  where
+    go : (r : Field) → ((q n : ℕ) → length (restAt k s q (ns ++ (n ∷ [])) .line) ≡ fieldCount)
+        → length (andThen r (λ n c. restAt k s (c .at) (ns ++ (n ∷ []))) .line) ≡ fieldCount
+    go (Number n c) ih = ih (c .at) n
+    go noNumber ih = refl
+
+pub length-read : (s : List ℕ) (at : ℕ) → length (lineAt s at .line) ≡ fieldCount
+unfolding lineAt
+length-read s at = length-rest fieldCount s at [] refl
+
+ended : {c : Cursor} → After c ≡ Malformed → ⊥
+ended e = let z : _≡_ {A = ℕ} 0 1 = cc in omega arith
+
+malformed-rest : (k : ℕ) (s : List ℕ) (at : ℕ) (ns : List ℕ) → restAt k s at ns .end ≡ Malformed → restAt k s at ns ≡ malformed
+unfolding restAt endAt
+malformed-rest zero s at ns e = byBool (eqb (getD s at 0) 10) (λ t. absurd (ended (rw t at e))) (λ t. rw t)
+malformed-rest (suc k) s at ns e = go (fieldAt s at) (λ q n. malformed-rest k s q (ns ++ (n ∷ []))) e
+  where
+    go : (r : Field) → ((q n : ℕ) → restAt k s q (ns ++ (n ∷ [])) .end ≡ Malformed → restAt k s q (ns ++ (n ∷ [])) ≡ malformed)
+        → andThen r (λ n c. restAt k s (c .at) (ns ++ (n ∷ []))) .end ≡ Malformed → andThen r (λ n c. restAt k s (c .at) (ns ++ (n ∷ []))) ≡ malformed
+    go (Number n c) ih d = ih (c .at) n d
+    go noNumber ih d = refl
+
+zeros-at : (k i : ℕ) → _≡_ {A = ℕ} (getD (replicate k 0) i 0) 0
+zeros-at zero i = refl
+zeros-at (suc k) zero = refl
+zeros-at (suc k) (suc i) = zeros-at k i
+
+pub malformed-zero : (s : List ℕ) (at i : ℕ) → lineAt s at .end ≡ Malformed → getD (lineAt s at .line) i 0 ≡ 0
+unfolding lineAt malformed
+malformed-zero s at i e = rw (malformed-rest fieldCount s at [] e) (zeros-at fieldCount i)
+
+pub small-read : (s : List ℕ) (at : ℕ) → Small (lineAt s at .line)
+small-read s at = go (lineAt s at .end) refl (line-is s at)
+  where
+    go : (d : End) → lineAt s at .end ≡ d → LineIs s at (lineAt s at .line) d → Small (lineAt s at .line)
+    go (After c) e h = h .0
+    go Malformed e h = record { small = λ i. omega (arith, malformed-zero s at i e) }

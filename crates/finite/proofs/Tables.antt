@@ -19,6 +19,11 @@ unfolding filled
 length-filled zero l f = refl
 length-filled (suc k) l f = rw length-set (length-filled k l f)
 
+pub filled-same : (k : ℕ) (l : List ℕ) (f g : ℕ → ℕ) → ((v : ℕ) → 1 ≤ v → v ≤ k → f v ≡ g v) → filled k l f ≡ filled k l g
+unfolding filled
+filled-same zero l f g e = refl
+filled-same (suc k) l f g e = rw (filled-same k l f g (λ v a b. e v a (omega arith)), e (suc k) (omega arith) (omega arith))
+
 -- f at 1..k, what it held elsewhere
 pub filled-in : (k : ℕ) (l : List ℕ) (f : ℕ → ℕ) (v : ℕ) → 1 ≤ v → v ≤ k → k < length l → at (filled k l f) v ≡ f v
 unfolding filled

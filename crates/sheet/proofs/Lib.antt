@@ -1,0 +1,4 @@
+pub mod Storing
+pub mod Limits
+pub mod Reading
+pub mod Refusals

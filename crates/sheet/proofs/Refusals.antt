@@ -1,0 +1,147 @@
+-- The refusals 3, 4 and 5 as tests are those that a reader of 01 would state. A line is found just where the bytes are a line of numbers
+-- (`line-is` of columns), and a line has only one reading (`same-cells`), so each test over the lines is the statement about each line.
+-- Assumes nothing.
+use Prim.Native.Nat.{ℕ, zero, suc, _+_, _*_, _≤_, _<_}
+use mathlib.Core.Path.{_≡_, refl, sym, ap, _∙_}
+use mathlib.Core.Logic.{_≢_, _↔_}
+use mathlib.Core.Bool.{Bool, true, false, _&&_, not}
+use mathlib.Core.List.{List}
+use lib.ListN.{length, take, drop}
+use native.Mathlib.Omega.{arith}
+use Rattle.finite.specs.Tests.{same}
+use Rattle.finite.specs.Range.{every}
+use Rattle.finite.specs.Tables.{at, filled}
+use Rattle.finite.proofs.Cases.{byBool, clash}
+use Rattle.finite.proofs.Tests.{is-same, same-is, and-l, and-r, not-true, not-false, not-yes}
+use Rattle.finite.proofs.Every.{every-at, is-every, every-same}
+use Rattle.finite.proofs.Tables.{filled-same}
+use Rattle.columns.specs.Lines.{fieldCount, lineLength, lineAt, lineOf, Small, LineIs}
+use Rattle.columns.specs.declared.End.{End}
+use Rattle.columns.specs.declared.End.the-variants.{After, Malformed}
+use Rattle.columns.proofs.Lines.{line-is, small-read, one-line}
+use Rattle.sheet.specs.Sheets.{zeros, found, lineNo, isLine, cell, nodes, genes, limits, Limits, refuses3, refuses4, whole, nodeLine, geneLine, refuses5, Line, NodeLine, GeneLine, WellFormed, cellsOf, nodeNumbered, geneNumbered, columnOf, nodeTable, geneTable}
+use Rattle.sheet.proofs.Limits.{limits-is, is-limits}
+use Rattle.sheet.proofs.Storing.{cells-at}
+use Rattle.sheet.proofs.Reading.{node-numbered, gene-numbered}
+
+-- a line that is found is the line of its cells
+pub line-found : (s : List ℕ) (i : ℕ) → isLine s i ≡ true → Line s i (lineNo s i .line)
+unfolding isLine lineNo
+line-found s i t = go (lineAt s (lineLength * i) .end) t (line-is s (lineLength * i))
+  where
+    go : (d : End) → found d ≡ true → LineIs s (lineLength * i) (lineAt s (lineLength * i) .line) d → Line s i (lineAt s (lineLength * i) .line)
+    go (After c) t h = record { small = h .0; bytes = h .1 }
+    go Malformed t h = clash t refl
+
+-- a line of numbers is found
+pub found-line : (s : List ℕ) (i : ℕ) (ns : List ℕ) → Line s i ns → isLine s i ≡ true
+unfolding isLine lineNo
+found-line s i ns l = go (lineAt s (lineLength * i) .end) (line-is s (lineLength * i))
+  where
+    go : (d : End) → LineIs s (lineLength * i) (lineAt s (lineLength * i) .line) d → found d ≡ true
+    go (After c) h = refl
+    go Malformed h = absurd (h ns (l .small) (l .bytes))
+
+-- and has one reading
+pub same-cells : (s : List ℕ) (i : ℕ) (ns : List ℕ) → Line s i ns → (k : ℕ) → k < fieldCount → cell s i k ≡ at ns k
+unfolding cell
+same-cells s i ns l k h = let f = line-found s i (found-line s i ns l) in
+    one-line (lineNo s i .line) ns (f .small) (l .small) (sym (f .bytes) ∙ l .bytes) k h
+
+-- 3: no numbers have the first bytes for their line
+pub refuses-3 : (s : List ℕ) → (refuses3 s ≡ true) ↔ ((ns : List ℕ) → Line s 0 ns → ⊥)
+unfolding refuses3
+refuses-3 s = (
+  (λ t ns l. clash (found-line s 0 ns l) (not-true (isLine s 0) t)),
+  λ none. not-yes (isLine s 0) (byBool (isLine s 0) (λ t. absurd (none _ (line-found s 0 t))) (λ t. t)),
+)
+
+-- 4: the header is beyond the limits
+pub refuses-4 : (s : List ℕ) → (refuses4 s ≡ true) ↔ (Limits (lineNo s 0 .line) → ⊥)
+unfolding refuses4
+refuses-4 s = (
+  (λ t l. clash (sym (is-limits _ l)) (not-true (limits (lineNo s 0 .line)) t)),
+  λ none. not-yes (limits (lineNo s 0 .line)) (byBool (limits (lineNo s 0 .line)) (λ t. absurd (none (limits-is _ t))) (λ t. t)),
+)
+
+-- a node line and a gene line, as tests and as statements
+node-line : (s : List ℕ) (v : ℕ) → nodeLine s v ≡ true → NodeLine s v
+unfolding nodeLine cell
+node-line s v t = record { numbers = lineNo s v .line; line = line-found s v (and-l (isLine s v) _ t); number = same-is _ _ (and-r (isLine s v) _ t) }
+
+line-node : (s : List ℕ) (v : ℕ) → NodeLine s v → nodeLine s v ≡ true
+unfolding nodeLine
+line-node s v l = rw (found-line s v _ (l .line), is-same (same-cells s v _ (l .line) 0 (omega arith) ∙ l .number))
+
+record GeneTests (s : List ℕ) (n g : ℕ) : Type 0 where
+  a : isLine s (n + g) ≡ true
+  b : same (cell s (n + g) 0) g ≡ true
+  c : same (cell s (n + g) 3) 0 ≡ true
+  d : same (cell s (n + g) 4) 0 ≡ true
+
+gene-tests : (s : List ℕ) (n g : ℕ) → geneLine s n g ≡ true → GeneTests s n g
+unfolding geneLine
+gene-tests s n g t = search (and-l, and-r)
+
+gene-line : (s : List ℕ) (n g : ℕ) → geneLine s n g ≡ true → GeneLine s n g
+unfolding cell
+gene-line s n g t = let x = gene-tests s n g t in
+    record { numbers = lineNo s (n + g) .line; line = line-found s (n + g) (x .a); number = same-is _ _ (x .b); fourth = same-is _ _ (x .c); fifth = same-is _ _ (x .d) }
+
+line-gene : (s : List ℕ) (n g : ℕ) → GeneLine s n g → geneLine s n g ≡ true
+unfolding geneLine
+line-gene s n g l = rw (
+  found-line s (n + g) _ (l .line),
+  is-same (same-cells s (n + g) _ (l .line) 0 (omega arith) ∙ l .number),
+  is-same (same-cells s (n + g) _ (l .line) 3 (omega arith) ∙ l .fourth),
+  is-same (same-cells s (n + g) _ (l .line) 4 (omega arith) ∙ l .fifth),
+)
+
+-- 5: the later lines, or the length, are not as they should be
+abbrev later : List ℕ → Bool
+later s = whole s (nodes s) (genes s) && every (nodes s) (nodeLine s) && every (genes s) (geneLine s (nodes s))
+
+pub well-formed : (s : List ℕ) → refuses5 s ≡ false → WellFormed s (nodes s) (genes s)
+unfolding refuses5 whole
+well-formed s f = let t = not-false (later s) f in
+    let lines = and-l (whole s (nodes s) (genes s) && every (nodes s) (nodeLine s)) _ t in
+    record {
+      total = same-is _ _ (and-l (whole s (nodes s) (genes s)) _ lines);
+      node = λ v l u. node-line s v (every-at (nodes s) (nodeLine s) (and-r (whole s (nodes s) (genes s)) _ lines) v l u);
+      gene = λ g l u. gene-line s (nodes s) g (every-at (genes s) (geneLine s (nodes s)) (and-r (whole s (nodes s) (genes s) && every (nodes s) (nodeLine s)) _ t) g l u);
+    }
+
+pub formed-well : (s : List ℕ) → WellFormed s (nodes s) (genes s) → refuses5 s ≡ false
+unfolding refuses5 whole
+formed-well s w = rw (
+  is-same (w .total),
+  is-every (nodes s) (nodeLine s) (λ v l u. line-node s v (w .node v l u)),
+  is-every (genes s) (geneLine s (nodes s)) (λ g l u. line-gene s (nodes s) g (w .gene g l u)),
+)
+
+pub refuses-5 : (s : List ℕ) → (refuses5 s ≡ true) ↔ (WellFormed s (nodes s) (genes s) → ⊥)
+refuses-5 s = ((λ t w. clash t (formed-well s w)), λ none. byBool (refuses5 s) (λ t. t) (λ f. absurd (none (well-formed s f))))
+
+-- what the cells of 1 + n + m lines tell of 5, and the tables that they give
+module _ (s : List ℕ) (few-nodes : nodes s ≤ 127) (few-genes : genes s ≤ 127) where
+  abbrev count : ℕ
+  count = 1 + nodes s + genes s
+
+  pub nodes-told : every (nodes s) (nodeNumbered (cellsOf s (1 + nodes s + genes s))) ≡ every (nodes s) (nodeLine s)
+  nodes-told = every-same (nodes s) _ _ (λ v l u. node-numbered s (1 + nodes s + genes s) v (omega arith) l (omega arith))
+
+  pub genes-told : every (genes s) (geneNumbered (cellsOf s (1 + nodes s + genes s)) (nodes s)) ≡ every (genes s) (geneLine s (nodes s))
+  genes-told = every-same (genes s) _ _ (λ g l u. gene-numbered s (1 + nodes s + genes s) (nodes s) g (omega arith) l (omega arith))
+
+  pub node-table : (k : ℕ) → k < fieldCount → filled (nodes s) zeros (columnOf (cellsOf s (1 + nodes s + genes s)) 0 k) ≡ nodeTable s k
+  unfolding nodeTable columnOf
+  node-table k h = filled-same (nodes s) zeros _ _ (λ v l u. ap (at (cellsOf s (1 + nodes s + genes s))) (omega arith) ∙ cells-at s (1 + nodes s + genes s) v k (omega arith) (omega arith) h)
+
+  pub gene-table : (k : ℕ) → k < fieldCount → filled (genes s) zeros (columnOf (cellsOf s (1 + nodes s + genes s)) (nodes s) k) ≡ geneTable s k
+  unfolding geneTable columnOf
+  gene-table k h = filled-same (genes s) zeros _ _ (λ g l u. cells-at s (1 + nodes s + genes s) (nodes s + g) k (omega arith) (omega arith) h)
+
+-- every cell has a field
+pub cell-small : (s : List ℕ) (i k : ℕ) → cell s i k < 1000000
+unfolding cell lineNo
+cell-small s i k = small-read s (lineLength * i) .small k
