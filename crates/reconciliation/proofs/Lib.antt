@@ -1,2 +1,4 @@
 pub mod Places
 pub mod Ways
+pub mod Events
+pub mod Agreement
