@@ -1,0 +1,3 @@
+pub mod Charges
+pub mod Locality
+pub mod Separable
