@@ -1,3 +1,5 @@
 pub mod Charges
 pub mod Locality
 pub mod Separable
+pub mod Settings
+pub mod Optimum
