@@ -3,3 +3,4 @@ pub mod Locality
 pub mod Separable
 pub mod Settings
 pub mod Optimum
+pub mod Machine
