@@ -4,3 +4,5 @@ pub mod Separable
 pub mod Settings
 pub mod Optimum
 pub mod Machine
+pub mod Search
+pub mod Bounds

@@ -5,8 +5,7 @@ use mathlib.Core.Path.{_≡_, refl, sym, _∙_, ap, fun-ext}
 use mathlib.Core.Logic.{_≢_}
 use mathlib.Core.Bool.{Bool, true, false, cond}
 use mathlib.Core.List.{List}
-use Prim.Native.Nat.{ℕ, zero, suc, _+_, _-_, _^_, _≤_, _<_, min}
-use native.Mathlib.Numerals.{add-one}
+use Prim.Native.Nat.{ℕ, zero, suc, _+_, _-_, _≤_, _<_, min}
 use native.Mathlib.Omega.{arith}
 use lib.ListN.{length, getD, set}
 use lib.Seq.{getD-set-same, getD-set-other}
@@ -18,18 +17,8 @@ use Rattle.finite.proofs.Cases.{byBool, byEq, byOrder, byLess, clash}
 use Rattle.finite.proofs.Tests.{is-same, not-same, is-under, not-under}
 use Rattle.finite.proofs.Sum.{sum-suc, sum-range-le, sum-zero-range}
 use Rattle.finite.proofs.Every.{first-is, first-none, first-low}
-use Rattle.finite.proofs.Least.{least-none, least-in}
-use Rattle.topology.specs.Networks.{Network, Node, Sound, Reticulation}
-use Rattle.topology.specs.Switchings.{Switching}
-use Rattle.topology.specs.Components.{component, members, settingOf}
-use Rattle.topology.proofs.Above.{reticulation-node}
-use Rattle.topology.proofs.Components.{component-node}
-use Rattle.reconciliation.specs.GeneTrees.{GeneTree, Rooted, Seated}
-use Rattle.reconciliation.specs.Mapping.{Costs, lcaCost}
-use Rattle.optimum.specs.Charges.{charge}
-use Rattle.optimum.specs.Optimum.{Least, Local, trial, bestSetting, assembled, settings, trials, trialCost, best, chosen, Optimal}
+use Rattle.finite.proofs.Least.{least-none}
 use Rattle.optimum.specs.Machine.{State, put, lesser, start, scored, nextComponent, nextSetting, step, after, scoredOf}
-use Rattle.optimum.proofs.Optimum.{assembled-least, least-agree, lca-local}
 
 -- the lowest that passes, and where none does
 pub first-only : (n v : ℕ) (f : ℕ → Bool) → 1 ≤ v → v ≤ n → f v ≡ true → ((u : ℕ) → 1 ≤ u → u < v → f u ≡ false) → first n f ≡ v
@@ -176,40 +165,3 @@ module _ (n : ℕ) (settings : ℕ → ℕ) where
     -- with no setting left each best is the first least of all the component's settings
     pub last-bests : (j : ℕ) → j < n → after n settings trial (sum n settings) .bests (suc j) ≡ firstLeast (trial (suc j)) (settings (suc j))
     last-bests j l = after-bests (sum n settings) j (omega arith) ∙ ap (firstLeast (trial (suc j))) (scored-all settings n j l)
-
--- the search over the components of a network, for any cost
-module _ (N : Network) (ok : Sound N) (cost : Switching → ℕ) where
-  -- the state when the search stops
-  abbrev pub last : State
-  last = after (N .size) (settings N) (trial N cost) (trials N)
-
-  -- "its count the trials reported, the sum of 2^k over components with k at least 1"
-  pub search-count : last .count ≡ trials N
-  unfolding trials
-  search-count = after-count (N .size) (settings N) (trial N cost) (trials N) (omega arith)
-
-  all-settings : (c : ℕ) → firstLeast (trial N cost c) (settings N c) ≡ bestSetting N cost c
-  unfolding settings bestSetting
-  all-settings c = byEq (members N c) 0
-      (λ e. rw (is-same e, e, least-none (trial N cost c)) (omega (arith, least-in (trial N cost c) 1 (omega arith))))
-      (λ d. rw (not-same d))
-
-  pub search-bests : (c : ℕ) → 1 ≤ c → c ≤ N .size → last .bests c ≡ bestSetting N cost c
-  unfolding trials
-  search-bests zero l u = absurd (omega arith)
-  search-bests (suc j) l u = last-bests (N .size) (settings N) (trial N cost) j u ∙ all-settings (suc j)
-
-  -- "the bests of its last state are the setting reported"
-  pub search-agree : (r : ℕ) → Reticulation N r → assembled N (last .bests) r ≡ assembled N (bestSetting N cost) r
-  unfolding assembled
-  search-agree r d =
-      let k = component-node N ok r (reticulation-node N ok r d) in
-      ap (λ (x : ℕ). settingOf N (component N r) x r) (search-bests (component N r) (k .low) (k .high))
-
-  pub search-least : (charges : Switching → ℕ → ℕ) → Local N cost charges → Least N cost (assembled N (last .bests))
-  search-least charges L = least-agree N ok cost charges L (assembled N (bestSetting N cost)) (assembled N (last .bests)) (assembled-least N ok cost charges L) search-agree
-
--- the last state of 01's search is the switching of demand 3
-pub search-optimal : (N : Network) (ok : Sound N) (G : GeneTree) → Rooted G → Seated N G → (C : Costs)
-    → Optimal N G C (assembled N (after (N .size) (settings N) (trialCost N G C) (trials N) .bests))
-search-optimal N ok G t s C = search-least N ok (lcaCost N G C) (charge N G C) (lca-local N ok G t s C)

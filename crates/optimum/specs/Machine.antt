@@ -1,11 +1,13 @@
 -- The search: "a plain machine whose state is a value". Components go by their tops 1..n; component c has `settings c` settings to be tried (none
 -- where it has no reticulation), and setting x of it costs `trial c x`.
 -- Assumes nothing.
+use mathlib.Core.Path.{_≡_}
 use mathlib.Core.Bool.{Bool, cond}
+use mathlib.Core.List.{List}
 use Prim.Native.Nat.{ℕ, zero, suc, _-_, min}
 use Rattle.finite.specs.Tests.{same, under}
 use Rattle.finite.specs.Range.{sum, first}
-use Rattle.finite.specs.Least.{firstLeast}
+use Rattle.finite.specs.Tables.{at}
 
 -- "the best setting so far of each component .. and the count of trials"
 pub record State : Type 0 where
@@ -48,3 +50,8 @@ module _ (n : ℕ) (settings : ℕ → ℕ) where
 -- how many of component c's settings are among the first t scored
 unfoldable pub scoredOf : (ℕ → ℕ) → ℕ → ℕ → ℕ
 scoredOf settings c t = min (settings c) (t - sum (c - 1) settings)
+
+-- a table of the bests by top, and a number, hold a state
+pub record Holds (bests : List ℕ) (count : ℕ) (s : State) : Type 0 where
+  pub table : at bests ≡ s .bests
+  pub number : count ≡ s .count

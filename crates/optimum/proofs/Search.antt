@@ -1,0 +1,123 @@
+-- The search over a network's components: the turns of its two loops on a table of bests and a count, and its last state, whose bests are each
+-- component's first least setting. So what the table holds when no setting is left is the switching of demand 3.
+-- Assumes nothing.
+use mathlib.Core.Path.{_≡_, refl, sym, _∙_, ap, fun-ext}
+use mathlib.Core.List.{List}
+use Prim.Native.Nat.{ℕ, zero, suc, _+_, _^_, _≤_, _<_}
+use native.Mathlib.Numerals.{add-one}
+use native.Mathlib.Omega.{arith}
+use lib.ListN.{length, set}
+use Rattle.finite.specs.Tests.{same}
+use Rattle.finite.specs.Range.{sum}
+use Rattle.finite.specs.Least.{firstLeast}
+use Rattle.finite.specs.Tables.{at}
+use Rattle.finite.proofs.Cases.{byEq}
+use Rattle.finite.proofs.Tests.{is-same, not-same}
+use Rattle.finite.proofs.Sum.{sum-more}
+use Rattle.finite.proofs.Least.{least-none, least-in}
+use Rattle.topology.specs.Networks.{Network, Node, Sound, Reticulation}
+use Rattle.topology.specs.Switchings.{Switching}
+use Rattle.topology.specs.Components.{component, members, settingOf}
+use Rattle.topology.proofs.Above.{reticulation-node}
+use Rattle.topology.proofs.Components.{component-node}
+use Rattle.reconciliation.specs.GeneTrees.{GeneTree, Rooted, Seated}
+use Rattle.reconciliation.specs.Mapping.{Costs, lcaCost}
+use Rattle.optimum.specs.Charges.{charge}
+use Rattle.optimum.specs.Optimum.{Least, Local, trial, bestSetting, assembled, settings, trials, trialCost, best, chosen, Optimal}
+use Rattle.optimum.specs.Machine.{State, put, lesser, start, scored, after, Holds}
+use Rattle.optimum.proofs.Optimum.{assembled-least, least-agree, lca-local}
+use Rattle.optimum.proofs.Machine.{put-table, put-same, lesser-take, lesser-keep, after-count, after-turn, last-bests}
+
+-- the turns of a loop over the components k + 1 and, in it, a loop over their settings x, on a table of bests and a count
+module _ (n : ℕ) (settings : ℕ → ℕ) (trial : ℕ → ℕ → ℕ) (l : List ℕ) (t : ℕ) where
+  pub search-start : ((v : ℕ) → at l v ≡ 0) → Holds l 0 (after n settings trial (sum 0 settings + 0))
+  unfolding after start sum
+  search-start z = record { table = fun-ext z; number = refl }
+
+  turn : (k x : ℕ) → Holds l t (after n settings trial (sum k settings + x)) → k < n → x < settings (k + 1)
+      → after n settings trial (sum k settings + (x + 1)) ≡ record { bests = put (at l) (k + 1) (lesser (trial (k + 1)) (at l (k + 1)) x); count = t + 1 }
+  unfolding scored
+  turn k x h u m =
+      let e : sum k settings + (x + 1) ≡ suc (sum k settings + x) = omega arith in
+      rw (e, after-turn n settings trial k x u (rw add-one at m), ← h .table, ← h .number, add-one k, add-one t)
+
+  -- setting x costs less than the best so far, or it does not
+  pub search-take : (k x : ℕ) → Holds l t (after n settings trial (sum k settings + x)) → k < n → x < settings (k + 1) → k + 1 < length l
+      → trial (k + 1) x < trial (k + 1) (at l (k + 1)) → Holds (set l (k + 1) x) (t + 1) (after n settings trial (sum k settings + (x + 1)))
+  search-take k x h u m b less = record {
+    table = put-table l (k + 1) x b ∙ ap (put (at l) (k + 1)) (sym (lesser-take (trial (k + 1)) (at l (k + 1)) x less)) ∙ sym (ap (λ (s : State). s .bests) (turn k x h u m));
+    number = sym (ap (λ (s : State). s .count) (turn k x h u m));
+  }
+
+  pub search-keep : (k x : ℕ) → Holds l t (after n settings trial (sum k settings + x)) → k < n → x < settings (k + 1)
+      → trial (k + 1) (at l (k + 1)) ≤ trial (k + 1) x → Holds l (t + 1) (after n settings trial (sum k settings + (x + 1)))
+  search-keep k x h u m more = record {
+    table = sym (put-same (at l) (k + 1)) ∙ ap (put (at l) (k + 1)) (sym (lesser-keep (trial (k + 1)) (at l (k + 1)) x more)) ∙ sym (ap (λ (s : State). s .bests) (turn k x h u m));
+    number = sym (ap (λ (s : State). s .count) (turn k x h u m));
+  }
+
+  -- all settings of component k + 1 are scored, and those of all components
+  pub search-next : (k x : ℕ) → Holds l t (after n settings trial (sum k settings + x)) → x ≤ settings (k + 1) → settings (k + 1) ≤ x
+      → Holds l t (after n settings trial (sum (k + 1) settings + 0))
+  search-next k x h a b = let e : sum k settings + x ≡ sum (k + 1) settings + 0 = omega (arith, sum-more k settings) in rw e at h
+
+  pub search-done : (k : ℕ) → Holds l t (after n settings trial (sum k settings + 0)) → k ≤ n → n ≤ k → Holds l t (after n settings trial (sum n settings))
+  search-done k h a b = let e : sum k settings + 0 ≡ sum n settings = omega (arith, ap (λ (i : ℕ). sum i settings) (k-is a b)) in rw e at h
+    where
+      k-is : k ≤ n → n ≤ k → k ≡ n
+      k-is a b = omega arith
+
+  -- the count stays at the number of settings scored
+  pub search-counted : (p : ℕ) → Holds l t (after n settings trial p) → p ≤ sum n settings → t ≡ p
+  search-counted p h u = h .number ∙ after-count n settings trial p u
+
+pub ruleset search-loop = (search-start, search-take, search-keep, search-next, search-done)
+
+-- the search over the components of a network, for any cost
+module _ (N : Network) (ok : Sound N) (cost : Switching → ℕ) where
+  -- the state when the search stops
+  abbrev pub last : State
+  last = after (N .size) (settings N) (trial N cost) (trials N)
+
+  -- "its count the trials reported, the sum of 2^k over components with k at least 1"
+  pub search-count : last .count ≡ trials N
+  unfolding trials
+  search-count = after-count (N .size) (settings N) (trial N cost) (trials N) (omega arith)
+
+  all-settings : (c : ℕ) → firstLeast (trial N cost c) (settings N c) ≡ bestSetting N cost c
+  unfolding settings bestSetting
+  all-settings c = byEq (members N c) 0
+      (λ e. rw (is-same e, e, least-none (trial N cost c)) (omega (arith, least-in (trial N cost c) 1 (omega arith))))
+      (λ d. rw (not-same d))
+
+  pub search-bests : (c : ℕ) → 1 ≤ c → c ≤ N .size → last .bests c ≡ bestSetting N cost c
+  unfolding trials
+  search-bests zero l u = absurd (omega arith)
+  search-bests (suc j) l u = last-bests (N .size) (settings N) (trial N cost) j u ∙ all-settings (suc j)
+
+  -- "the bests of its last state are the setting reported"
+  pub search-agree : (r : ℕ) → Reticulation N r → assembled N (last .bests) r ≡ assembled N (bestSetting N cost) r
+  unfolding assembled
+  search-agree r d =
+      let k = component-node N ok r (reticulation-node N ok r d) in
+      ap (λ (x : ℕ). settingOf N (component N r) x r) (search-bests (component N r) (k .low) (k .high))
+
+  pub search-least : (charges : Switching → ℕ → ℕ) → Local N cost charges → Least N cost (assembled N (last .bests))
+  search-least charges L = least-agree N ok cost charges L (assembled N (bestSetting N cost)) (assembled N (last .bests)) (assembled-least N ok cost charges L) search-agree
+
+-- with the last-common-ancestor cost, on a table and a count that hold the last state
+module _ (N : Network) (ok : Sound N) (G : GeneTree) (C : Costs) (l : List ℕ) (t : ℕ)
+    (h : Holds l t (after (N .size) (settings N) (trialCost N G C) (trials N))) where
+  pub held-count : t ≡ trials N
+  held-count = h .number ∙ search-count N ok (lcaCost N G C)
+
+  pub held-best : (c : ℕ) → 1 ≤ c → c ≤ N .size → at l c ≡ best N G C c
+  held-best c a b = ap (λ (f : ℕ → ℕ). f c) (h .table) ∙ search-bests N ok (lcaCost N G C) c a b
+
+  pub held-chosen : (r : ℕ) → Reticulation N r → assembled N (at l) r ≡ chosen N G C r
+  held-chosen r d = ap (λ (f : ℕ → ℕ). assembled N f r) (h .table) ∙ search-agree N ok (lcaCost N G C) r d
+
+  -- the switching reported is the theorem's
+  pub held-optimal : Rooted G → Seated N G → Optimal N G C (assembled N (at l))
+  held-optimal g s = least-agree N ok (lcaCost N G C) (charge N G C) (lca-local N ok G g s C) (chosen N G C) (assembled N (at l))
+      (assembled-least N ok (lcaCost N G C) (charge N G C) (lca-local N ok G g s C)) held-chosen
