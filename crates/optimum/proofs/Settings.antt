@@ -11,11 +11,11 @@ use Rattle.finite.specs.Tests.{same, under, tally}
 use Rattle.finite.specs.Range.{sum, count}
 use Rattle.finite.proofs.Cases.{byBool, byEq, byOrder, byLess, clash}
 use Rattle.finite.proofs.Tests.{is-same, not-same, is-under, not-under, and-l, and-no-r, tally-le}
-use Rattle.finite.proofs.Sum.{sum-suc, sum-zero-range}
+use Rattle.finite.proofs.Sum.{sum-suc, sum-zero-range, sum-add, sum-point}
 use Rattle.finite.proofs.Count.{count-zero}
 use Rattle.topology.specs.Networks.{Network, Node, Sound, Reticulation}
 use Rattle.topology.specs.Switchings.{Switching, NotAfter, equal, before}
-use Rattle.topology.specs.Components.{component, memberOf, members, membersAfter, settingOf, Agree}
+use Rattle.topology.specs.Components.{component, memberOf, members, indexOf, membersAfter, settingOf, Agree}
 use Rattle.topology.proofs.Above.{reticulation-node}
 use Rattle.topology.proofs.Components.{member-is, is-member}
 
@@ -209,3 +209,26 @@ module _ (N : Network) (ok : Sound N) (c : ℕ) where
   pub setting-principal : (r : ℕ) → settingOf N c 0 r ≡ false
   unfolding settingOf
   setting-principal r = rw (zero-div (2 ^ membersAfter N c r)) (and-no-r (memberOf N c r) _ (not-same {m = 0} {n = 1} (omega arith)))
+
+-- the places of d before r, r and those after it
+count-split : (n r : ℕ) (f : ℕ → Bool) → 1 ≤ r → r ≤ n → f r ≡ true → count n f ≡ count n (λ q. f q && under q r) + 1 + count n (λ q. f q && under r q)
+unfolding count
+count-split n r f l u t = sum-point n (λ q. tally (f q && under q r) + tally (f q && under r q)) (λ q. tally (f q)) r 1 l u
+    (λ q d. byOrder q r (λ m. rw (is-under m, not-under {m = r} {n = q} (omega arith)) (left (f q))) (λ e. absurd (d e)) (λ m. rw (is-under m, not-under {m = q} {n = r} (omega arith)) (right (f q))))
+    (rw (t, not-under {m = r} {n = r} (omega arith)))
+    ∙ omega (arith, sum-add n (λ q. tally (f q && under q r)) (λ q. tally (f q && under r q)))
+  where
+    left : (b : Bool) → tally b ≡ tally (b && true) + tally (b && false)
+    left true = refl
+    left false = refl
+
+    right : (b : Bool) → tally b ≡ tally (b && false) + tally (b && true)
+    right true = refl
+    right false = refl
+
+-- "whose highest bit belongs to the lowest-numbered reticulation": the bit of a reticulation counts down from the highest by its index
+pub index-bit : (N : Network) → Sound N → (r : ℕ) → Reticulation N r → indexOf N r + 1 + membersAfter N (component N r) r ≡ members N (component N r)
+unfolding indexOf membersAfter members
+index-bit N ok r d =
+    let k = reticulation-node N ok r d in
+    sym (count-split (N .size) r (memberOf N (component N r)) (k .low) (k .high) (is-member N (component N r) r d refl))
