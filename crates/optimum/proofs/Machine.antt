@@ -47,7 +47,11 @@ put-table l c x u = fun-ext (λ d. byEq d c
 pub put-same : (f : ℕ → ℕ) (c : ℕ) → put f c (f c) ≡ f
 put-same f c = fun-ext (λ d. byEq d c (λ e. rw e (put-in f c (f c))) (λ n. put-out f c (f c) d n))
 
--- the lesser of two settings
+-- the lesser of two settings: what a step does to the first least of those scored
+least-lesser : (f : ℕ → ℕ) (k : ℕ) → lesser f (firstLeast f k) k ≡ firstLeast f (suc k)
+unfolding lesser firstLeast
+least-lesser f k = refl
+
 pub lesser-take : (f : ℕ → ℕ) (b x : ℕ) → f x < f b → lesser f b x ≡ x
 unfolding lesser
 lesser-take f b x l = rw (is-under l)
@@ -55,10 +59,6 @@ lesser-take f b x l = rw (is-under l)
 pub lesser-keep : (f : ℕ → ℕ) (b x : ℕ) → f b ≤ f x → lesser f b x ≡ b
 unfolding lesser
 lesser-keep f b x l = rw (not-under l)
-
-least-lesser : (f : ℕ → ℕ) (k : ℕ) → lesser f (firstLeast f k) k ≡ firstLeast f (suc k)
-unfolding lesser firstLeast
-least-lesser f k = refl
 
 module _ (settings : ℕ → ℕ) where
   -- each number below the sum is one setting of one component
