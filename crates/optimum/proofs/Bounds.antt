@@ -1,10 +1,8 @@
 -- The report's six columns hold what the search finds: the chosen switching costs no more than the all-principal one, which has no transfers; the
 -- counts are bounded for every switching; and a component with k reticulations has no more than 32 k trials.
 -- Assumes nothing.
-use mathlib.Core.Path.{_≡_, refl, sym, _∙_, ap}
-use mathlib.Core.Logic.{_≢_}
-use mathlib.Core.Bool.{Bool, true, false, cond, _&&_}
-use Prim.Native.Nat.{ℕ, zero, suc, _+_, _*_, _^_, _≤_, _<_}
+use mathlib.Core.Bool.{_&&_}
+use Prim.Native.Nat.{ℕ, zero, suc, _*_, _^_, _≤_, _<_}
 use native.Mathlib.Omega.{arith}
 use Rattle.finite.specs.Tests.{same, tally}
 use Rattle.finite.specs.Range.{sum, count}
@@ -19,7 +17,7 @@ use Rattle.reconciliation.specs.GeneTrees.{GeneTree, Rooted, Seated}
 use Rattle.reconciliation.specs.Mapping.{Costs, duplicationCount, transferCount, lossCount, lcaCost}
 use Rattle.reconciliation.specs.Limits.{Limits}
 use Rattle.reconciliation.proofs.Bounds.{duplications-few, transfers-few, losses-few, principal-cost}
-use Rattle.optimum.specs.Optimum.{Least, settings, trials, chosen, Optimal}
+use Rattle.optimum.specs.Optimum.{settings, trials, chosen, Optimal}
 use Rattle.optimum.proofs.Optimum.{chosen-optimal}
 
 -- the reported cost and counts are below 1,000,000

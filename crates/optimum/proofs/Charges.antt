@@ -1,23 +1,23 @@
 -- The last-common-ancestor cost is a sum over the nodes of their charges: each gene's transfers and losses are counts over nodes, and a duplication is
 -- counted at the one node where the gene sits; then the sums over genes and over nodes are exchanged.
 -- Assumes nothing.
-use mathlib.Core.Path.{_≡_, refl, sym, _∙_, ap}
+use mathlib.Core.Path.{_≡_, refl, sym, _∙_}
 use mathlib.Core.Logic.{_≢_}
-use mathlib.Core.Bool.{Bool, true, false, cond, _&&_, _||_, not, and-false}
-use Prim.Native.Nat.{ℕ, zero, suc, _+_, _*_, _≤_, _<_}
+use mathlib.Core.Bool.{false, _&&_, not, and-false}
+use Prim.Native.Nat.{ℕ, _+_, _*_, _≤_}
 use native.Mathlib.Omega.{arith}
 use Rattle.finite.specs.Tests.{same, tally}
 use Rattle.finite.specs.Range.{sum, count}
-use Rattle.finite.proofs.Cases.{byBool, byEq, clash}
+use Rattle.finite.proofs.Cases.{byEq}
 use Rattle.finite.proofs.Tests.{is-same, not-same}
 use Rattle.finite.proofs.Sum.{sum-same, sum-zero, sum-add, sum-mul, sum-swap, sum-point}
 use Rattle.finite.proofs.Count.{count-same, count-zero}
-use Rattle.topology.specs.Networks.{Network, Node, Sound}
-use Rattle.topology.specs.Switchings.{Switching, onSecondary, above}
+use Rattle.topology.specs.Networks.{Network, Sound}
+use Rattle.topology.specs.Switchings.{Switching, onSecondary}
 use Rattle.reconciliation.specs.GeneTrees.{GeneTree, Rooted, Seated}
 use Rattle.reconciliation.specs.Mapping.{Costs, place, forks, isDuplication, event, transfers, passed, leaves, losses, duplicationCount, transferCount, lossCount, lcaCost}
 use Rattle.reconciliation.proofs.Places.{parent-gene, place-node}
-use Rattle.reconciliation.proofs.Ways.{onWay, transfers-none, losses-none, transfers-count, passed-count, losses-some}
+use Rattle.reconciliation.proofs.Ways.{transfers-none, losses-none, transfers-count, passed-count, losses-some}
 use Rattle.reconciliation.proofs.Events.{event-test}
 use Rattle.optimum.specs.Charges.{covers, sits, enters, transferAt, lossAt, duplicationAt, leavesAt, charge}
 

@@ -3,18 +3,17 @@
 -- Assumes nothing.
 use mathlib.Core.Path.{_≡_, refl, sym, _∙_, ap}
 use mathlib.Core.Logic.{_≢_}
-use mathlib.Core.Bool.{Bool, true, false, cond, _||_, _&&_, not, and-false}
-use Prim.Native.Nat.{ℕ, zero, suc, _+_, _*_, _≤_, _<_}
+use mathlib.Core.Bool.{true, and-false}
+use Prim.Native.Nat.{ℕ, zero, suc, _<_}
 use native.Mathlib.Omega.{arith}
-use Rattle.finite.specs.Tests.{same, tally}
-use Rattle.finite.specs.Range.{sum, count, children}
-use Rattle.finite.proofs.Cases.{byBool, byEq, clash}
+use Rattle.finite.specs.Tests.{same}
+use Rattle.finite.specs.Range.{count, children}
+use Rattle.finite.proofs.Cases.{byBool, byEq}
 use Rattle.finite.proofs.Tests.{is-same, same-is, not-same, test-iff}
 use Rattle.finite.proofs.Sum.{sum-same}
 use Rattle.finite.proofs.Count.{count-same}
-use Rattle.topology.specs.Climbing.{Falls}
-use Rattle.topology.specs.Networks.{Network, Node, Sound, Reticulation, isReticulation}
-use Rattle.topology.specs.Switchings.{Switching, onSecondary, parent, onArcs, height, above, lca}
+use Rattle.topology.specs.Networks.{Network, Node, Sound, isReticulation}
+use Rattle.topology.specs.Switchings.{Switching, onSecondary, parent, onArcs, height, above}
 use Rattle.topology.specs.Components.{isTop, component, Agree}
 use Rattle.topology.proofs.Above.{parent-agree, parent-cases, principal-node, reticulation-node, falls, above-self, above-low, above-child, lca-spec}
 use Rattle.topology.proofs.Components.{component-parent, top-parent, above-top, above-local}

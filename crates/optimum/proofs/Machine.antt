@@ -2,18 +2,17 @@
 -- steps the count is t and a component's best is the first least of those of its settings that are among the t scored.
 -- Assumes nothing.
 use mathlib.Core.Path.{_≡_, refl, sym, _∙_, ap, fun-ext}
-use mathlib.Core.Logic.{_≢_}
-use mathlib.Core.Bool.{Bool, true, false, cond}
+use mathlib.Core.Logic.{_≢_, _↔_}
+use mathlib.Core.Bool.{Bool, true, false}
 use mathlib.Core.List.{List}
 use Prim.Native.Nat.{ℕ, zero, suc, _+_, _-_, _≤_, _<_, min}
 use native.Mathlib.Omega.{arith}
-use lib.ListN.{length, getD, set}
+use lib.ListN.{length, set}
 use lib.Seq.{getD-set-same, getD-set-other}
-use Rattle.finite.specs.Tests.{same, under}
 use Rattle.finite.specs.Range.{sum, first}
 use Rattle.finite.specs.Least.{firstLeast}
 use Rattle.finite.specs.Tables.{at}
-use Rattle.finite.proofs.Cases.{byBool, byEq, byOrder, byLess, clash}
+use Rattle.finite.proofs.Cases.{byEq, byOrder, byLess, clash}
 use Rattle.finite.proofs.Tests.{is-same, not-same, is-under, not-under}
 use Rattle.finite.proofs.Sum.{sum-suc, sum-range-le, sum-zero-range}
 use Rattle.finite.proofs.Every.{first-is, first-none, first-low}
@@ -72,6 +71,10 @@ module _ (settings : ℕ → ℕ) where
   scored-of : (j t : ℕ) → scoredOf settings (suc j) t ≡ min (settings (suc j)) (t - sum j settings)
   unfolding scoredOf
   scored-of j t = let e : suc j - 1 ≡ j = omega arith in rw e
+
+  -- the settings of component j + 1 that are among the t scored: its number x is scored by trial `sum j settings + x`, counted from 0
+  pub scored-iff : (j t x : ℕ) → (x < scoredOf settings (suc j) t) ↔ ((x < settings (suc j)) × (sum j settings + x < t))
+  scored-iff j t x = ((λ l. (omega (arith, scored-of j t), omega (arith, scored-of j t))), λ h. omega (arith, scored-of j t, h .0, h .1))
 
   -- no setting is scored at the start, and at the end all are
   pub scored-none : (j : ℕ) → scoredOf settings (suc j) 0 ≡ 0

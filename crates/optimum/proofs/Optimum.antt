@@ -2,18 +2,16 @@
 -- network and is the first of those that cost as little. Every choice in a component is one of its settings, in order, so the settings tried are
 -- enough for the component, and separability makes them enough for the network.
 -- Assumes nothing.
-use mathlib.Core.Path.{_≡_, refl, sym, _∙_, ap}
-use mathlib.Core.Logic.{_≢_, _↔_}
-use mathlib.Core.Bool.{Bool, true, false}
-use Prim.Native.Nat.{ℕ, zero, suc, _+_, _^_, _≤_, _<_}
+use mathlib.Core.Path.{_≡_, refl, sym, _∙_}
+use mathlib.Core.Logic.{_↔_}
+use Prim.Native.Nat.{ℕ, _^_, _≤_, _<_}
 use native.Mathlib.Nat.{one-le-pow}
 use native.Mathlib.Omega.{arith}
 use Rattle.finite.specs.Range.{sum}
-use Rattle.finite.specs.Least.{firstLeast}
 use Rattle.finite.proofs.Cases.{byEq, byLess}
 use Rattle.finite.proofs.Sum.{sum-same}
 use Rattle.finite.proofs.Least.{least-is, least-first, least-in}
-use Rattle.topology.specs.Networks.{Network, Node, Sound, Reticulation}
+use Rattle.topology.specs.Networks.{Network, Sound, Reticulation}
 use Rattle.topology.specs.Switchings.{Switching, NotAfter, equal, before}
 use Rattle.topology.specs.Components.{component, members, settingOf, Agree}
 use Rattle.topology.proofs.Above.{reticulation-node}
@@ -26,7 +24,7 @@ use Rattle.optimum.specs.Optimum.{Least, Local, trial, bestSetting, asse
 use Rattle.optimum.proofs.Charges.{cost-nodes}
 use Rattle.optimum.proofs.Locality.{charge-local}
 use Rattle.optimum.proofs.Separable.{only-in, only-out, joined-least, joined-first, least-parts}
-use Rattle.optimum.proofs.Settings.{In, setting-onto, setting-order, setting-outside, order-anti}
+use Rattle.optimum.proofs.Settings.{setting-onto, setting-order, setting-outside, order-anti}
 
 -- the order reads its switchings at D only
 pub order-left : {D : ℕ → Type 0} {σ ρ τ : Switching} → ((r : ℕ) → D r → ρ r ≡ σ r) → NotAfter D σ τ → NotAfter D ρ τ

@@ -3,11 +3,10 @@
 -- Assumes nothing.
 use mathlib.Core.Path.{_≡_, refl, sym, _∙_, ap, fun-ext}
 use mathlib.Core.List.{List}
-use Prim.Native.Nat.{ℕ, zero, suc, _+_, _^_, _≤_, _<_}
+use Prim.Native.Nat.{ℕ, zero, suc, _+_, _≤_, _<_}
 use native.Mathlib.Numerals.{add-one}
 use native.Mathlib.Omega.{arith}
 use lib.ListN.{length, set}
-use Rattle.finite.specs.Tests.{same}
 use Rattle.finite.specs.Range.{sum}
 use Rattle.finite.specs.Least.{firstLeast}
 use Rattle.finite.specs.Tables.{at}
@@ -15,7 +14,7 @@ use Rattle.finite.proofs.Cases.{byEq}
 use Rattle.finite.proofs.Tests.{is-same, not-same}
 use Rattle.finite.proofs.Sum.{sum-more}
 use Rattle.finite.proofs.Least.{least-none, least-in}
-use Rattle.topology.specs.Networks.{Network, Node, Sound, Reticulation}
+use Rattle.topology.specs.Networks.{Network, Sound, Reticulation}
 use Rattle.topology.specs.Switchings.{Switching}
 use Rattle.topology.specs.Components.{component, members, settingOf}
 use Rattle.topology.proofs.Above.{reticulation-node}
@@ -24,9 +23,9 @@ use Rattle.reconciliation.specs.GeneTrees.{GeneTree, Rooted, Seated}
 use Rattle.reconciliation.specs.Mapping.{Costs, lcaCost}
 use Rattle.optimum.specs.Charges.{charge}
 use Rattle.optimum.specs.Optimum.{Least, Local, trial, bestSetting, assembled, settings, trials, trialCost, best, chosen, Optimal}
-use Rattle.optimum.specs.Machine.{State, put, lesser, start, scored, after, Holds}
+use Rattle.optimum.specs.Machine.{State, put, lesser, start, scored, after, scoredOf, searchAfter, AsScored, Holds}
 use Rattle.optimum.proofs.Optimum.{assembled-least, least-agree, lca-local}
-use Rattle.optimum.proofs.Machine.{put-table, put-same, lesser-take, lesser-keep, after-count, after-turn, last-bests}
+use Rattle.optimum.proofs.Machine.{put-table, put-same, lesser-take, lesser-keep, after-count, after-turn, after-bests, last-bests, step-none}
 
 -- the turns of a loop over the components k + 1 and, in it, a loop over their settings x, on a table of bests and a count
 module _ (n : ℕ) (settings : ℕ → ℕ) (trial : ℕ → ℕ → ℕ) (l : List ℕ) (t : ℕ) where
@@ -105,9 +104,35 @@ module _ (N : Network) (ok : Sound N) (cost : Switching → ℕ) where
   pub search-least : (charges : Switching → ℕ → ℕ) → Local N cost charges → Least N cost (assembled N (last .bests))
   search-least charges L = least-agree N ok cost charges L (assembled N (bestSetting N cost)) (assembled N (last .bests)) (assembled-least N ok cost charges L) search-agree
 
--- with the last-common-ancestor cost, on a table and a count that hold the last state
+-- with the last-common-ancestor cost: the state after t steps is as 01 says it, for every t up to the number of trials, and stays so after the last
+pub search-state : (N : Network) (G : GeneTree) (C : Costs) (t : ℕ) → t ≤ trials N → AsScored N G C t (searchAfter N G C t)
+unfolding trials
+search-state N G C t l = record {
+  count = after-count (N .size) (settings N) (trialCost N G C) t l;
+  bests = each;
+}
+  where
+    each : (c : ℕ) → 1 ≤ c → c ≤ N .size → searchAfter N G C t .bests c ≡ firstLeast (trialCost N G C c) (scoredOf (settings N) c t)
+    each zero a b = absurd (omega arith)
+    each (suc j) a b = after-bests (N .size) (settings N) (trialCost N G C) t j l
+
+pub search-stops : (N : Network) (G : GeneTree) (C : Costs) (k : ℕ) → searchAfter N G C (trials N + k) ≡ searchAfter N G C (trials N)
+unfolding after trials
+search-stops N G C zero = let e : trials N + 0 ≡ trials N = omega arith in rw e
+search-stops N G C (suc k) =
+    let e : trials N + suc k ≡ suc (trials N + k) = omega arith in
+    let h = search-stops N G C k in
+    rw (e, h) (step-none (N .size) (settings N) (trialCost N G C) (searchAfter N G C (trials N)) (omega (arith, after-count (N .size) (settings N) (trialCost N G C) (trials N) (omega arith))))
+
+-- the loop over the components of a network ends in the last state
+pub search-end : (N : Network) (G : GeneTree) (C : Costs) (l : List ℕ) (t k : ℕ)
+    → Holds l t (after (N .size) (settings N) (trialCost N G C) (sum k (settings N) + 0)) → k ≤ N .size → N .size ≤ k → Holds l t (searchAfter N G C (trials N))
+unfolding trials
+search-end N G C l t k = search-done (N .size) (settings N) (trialCost N G C) l t k
+
+-- on a table and a count that hold the last state
 module _ (N : Network) (ok : Sound N) (G : GeneTree) (C : Costs) (l : List ℕ) (t : ℕ)
-    (h : Holds l t (after (N .size) (settings N) (trialCost N G C) (trials N))) where
+    (h : Holds l t (searchAfter N G C (trials N))) where
   pub held-count : t ≡ trials N
   held-count = h .number ∙ search-count N ok (lcaCost N G C)
 

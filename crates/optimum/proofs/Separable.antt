@@ -4,10 +4,10 @@
 -- Assumes nothing.
 use mathlib.Core.Path.{_≡_, refl, sym, _∙_, ap}
 use mathlib.Core.Logic.{_≢_, _↔_}
-use mathlib.Core.Bool.{Bool, true, false, cond, Bool-discrete}
+use mathlib.Core.Bool.{false, cond, Bool-discrete}
 use Prim.Native.Nat.{ℕ, zero, suc, _+_, _≤_, _<_}
 use native.Mathlib.Omega.{arith}
-use Rattle.finite.specs.Tests.{same, under}
+use Rattle.finite.specs.Tests.{under}
 use Rattle.finite.specs.Range.{sum}
 use Rattle.finite.proofs.Cases.{byEq, byOrder, clash}
 use Rattle.finite.proofs.Tests.{is-same, not-same, is-under, not-under}

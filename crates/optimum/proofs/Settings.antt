@@ -8,12 +8,12 @@ use Prim.Native.Nat.{ℕ, zero, suc, _+_, _*_, _^_, _/_, _%_, _≤_, _<_}
 use native.Mathlib.Nat.{pow-zero, pow-suc, pow-succ', div-one, zero-div, div-div-eq-div-mul}
 use native.Mathlib.Omega.{arith}
 use Rattle.finite.specs.Tests.{same, under, tally}
-use Rattle.finite.specs.Range.{sum, count}
+use Rattle.finite.specs.Range.{count}
 use Rattle.finite.proofs.Cases.{byBool, byEq, byOrder, byLess, clash}
-use Rattle.finite.proofs.Tests.{is-same, not-same, is-under, not-under, and-l, and-no-r, tally-le}
+use Rattle.finite.proofs.Tests.{is-same, not-same, is-under, not-under, and-no-r, tally-le}
 use Rattle.finite.proofs.Sum.{sum-suc, sum-zero-range, sum-add, sum-point}
 use Rattle.finite.proofs.Count.{count-zero}
-use Rattle.topology.specs.Networks.{Network, Node, Sound, Reticulation}
+use Rattle.topology.specs.Networks.{Network, Sound, Reticulation}
 use Rattle.topology.specs.Switchings.{Switching, NotAfter, equal, before}
 use Rattle.topology.specs.Components.{component, memberOf, members, indexOf, membersAfter, settingOf, Agree}
 use Rattle.topology.proofs.Above.{reticulation-node}

@@ -2,12 +2,17 @@
 -- where it has no reticulation), and setting x of it costs `trial c x`.
 -- Assumes nothing.
 use mathlib.Core.Path.{_≡_}
-use mathlib.Core.Bool.{Bool, cond}
+use mathlib.Core.Bool.{cond}
 use mathlib.Core.List.{List}
-use Prim.Native.Nat.{ℕ, zero, suc, _-_, min}
+use Prim.Native.Nat.{ℕ, zero, suc, _-_, min, _≤_}
 use Rattle.finite.specs.Tests.{same, under}
 use Rattle.finite.specs.Range.{sum, first}
+use Rattle.finite.specs.Least.{firstLeast}
 use Rattle.finite.specs.Tables.{at}
+use Rattle.topology.specs.Networks.{Network}
+use Rattle.reconciliation.specs.GeneTrees.{GeneTree}
+use Rattle.reconciliation.specs.Mapping.{Costs}
+use Rattle.optimum.specs.Optimum.{settings, trialCost}
 
 -- "the best setting so far of each component .. and the count of trials"
 pub record State : Type 0 where
@@ -50,6 +55,16 @@ module _ (n : ℕ) (settings : ℕ → ℕ) where
 -- how many of component c's settings are among the first t scored
 unfoldable pub scoredOf : (ℕ → ℕ) → ℕ → ℕ → ℕ
 scoredOf settings c t = min (settings c) (t - sum (c - 1) settings)
+
+-- the search of a network's components by the last-common-ancestor cost, after t steps
+abbrev pub searchAfter : Network → GeneTree → Costs → ℕ → State
+searchAfter N G C = after (N .size) (settings N) (trialCost N G C)
+
+-- "After t steps the count is t, and a component's best is the first, among those of its settings that are among the t scored, for which the
+-- last-common-ancestor cost is least with all other components on principal; where none of its settings is among them, it is all principal still"
+pub record AsScored (N : Network) (G : GeneTree) (C : Costs) (t : ℕ) (s : State) : Type 0 where
+  pub count : s .count ≡ t
+  pub bests : (c : ℕ) → 1 ≤ c → c ≤ N .size → s .bests c ≡ firstLeast (trialCost N G C c) (scoredOf (settings N) c t)
 
 -- a table of the bests by top, and a number, hold a state
 pub record Holds (bests : List ℕ) (count : ℕ) (s : State) : Type 0 where

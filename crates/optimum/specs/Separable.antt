@@ -2,8 +2,8 @@
 -- depends only on how the places of v's own part are set.
 -- Assumes nothing.
 use mathlib.Core.Path.{_≡_}
-use mathlib.Core.Bool.{Bool, true, false, cond}
-use Prim.Native.Nat.{ℕ, _≤_, _<_}
+use mathlib.Core.Bool.{false, cond}
+use Prim.Native.Nat.{ℕ, _≤_}
 use Rattle.finite.specs.Tests.{same}
 use Rattle.finite.specs.Range.{sum}
 use Rattle.topology.specs.Switchings.{Switching, NotAfter}

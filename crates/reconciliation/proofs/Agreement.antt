@@ -1,9 +1,9 @@
 -- Only what a switching says at reticulations counts: switchings that agree there have the same parent function and the same on secondary arcs, and
 -- everything else is computed from these two.
 -- Assumes nothing.
-use mathlib.Core.Path.{_≡_, refl, sym, _∙_, ap, fun-ext}
-use mathlib.Core.Bool.{Bool, true, false, cond, _&&_, _||_, not, and-false}
-use Prim.Native.Nat.{ℕ, zero, suc, _+_}
+use mathlib.Core.Path.{_≡_, refl, ap, fun-ext}
+use mathlib.Core.Bool.{Bool, _&&_, and-false}
+use Prim.Native.Nat.{ℕ, zero, suc}
 use Rattle.finite.specs.Tests.{same}
 use Rattle.finite.specs.Range.{some, children}
 use Rattle.topology.specs.Climbing.{meet}

@@ -1,25 +1,24 @@
 -- Bounds for every switching: a gene's transfers and losses are counts of nodes, so they do not exceed the number of nodes. Under any switching fewer
 -- than half of the nodes have two on arcs, and fewer than half of the genes are inner genes, which bounds the losses and duplications closely.
 -- Assumes nothing.
-use mathlib.Core.Path.{_≡_, refl, sym, _∙_, ap}
+use mathlib.Core.Path.{_≡_, refl, _∙_}
 use mathlib.Core.Logic.{_≢_}
-use mathlib.Core.Bool.{Bool, true, false, cond, _&&_, not}
-use Prim.Native.Nat.{ℕ, zero, suc, _+_, _*_, _≤_, _<_}
+use mathlib.Core.Bool.{Bool, _&&_, not}
+use Prim.Native.Nat.{ℕ, _+_, _*_, _≤_, _<_}
 use native.Mathlib.Nat.{mul-le-mul}
 use native.Mathlib.Omega.{arith}
 use Rattle.finite.specs.Tests.{same, tally}
-use Rattle.finite.specs.Range.{sum, count, children}
-use Rattle.finite.proofs.Cases.{byBool, byEq, clash}
-use Rattle.finite.proofs.Tests.{is-same, not-same, and-l, and-r, tally-le}
+use Rattle.finite.specs.Range.{count, children}
+use Rattle.finite.proofs.Cases.{byEq}
+use Rattle.finite.proofs.Tests.{is-same, not-same, and-l, tally-le}
 use Rattle.finite.proofs.Sum.{sum-le, sum-mul, sum-zero, sum-bound, sum-short}
 use Rattle.finite.proofs.Count.{count-same, count-imp, count-le, count-zero, count-two, branchings}
-use Rattle.topology.specs.Networks.{Network, Node, Sound}
+use Rattle.topology.specs.Networks.{Network, Sound}
 use Rattle.topology.specs.Switchings.{Switching, allPrincipal, onSecondary, parent, onArcs}
 use Rattle.topology.proofs.Components.{top-root, top-parent}
 use Rattle.reconciliation.specs.GeneTrees.{GeneTree, Rooted, Seated}
 use Rattle.reconciliation.specs.Mapping.{Costs, place, forks, isDuplication, event, transfers, passed, leaves, losses, duplicationCount, transferCount, lossCount, lcaCost}
 use Rattle.reconciliation.specs.Limits.{Limits}
-use Rattle.reconciliation.proofs.Places.{child-gene, place-node}
 use Rattle.reconciliation.proofs.Ways.{onWay, transfers-none, losses-none, transfers-count, passed-count, losses-some}
 use Rattle.reconciliation.proofs.Events.{event-test, duplication-is}
 

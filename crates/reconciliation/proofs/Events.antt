@@ -1,15 +1,14 @@
 -- The event of a gene by what 01 says of it: 0 exactly for a leaf gene, 2 exactly when a child sits at the same node, 3 exactly when none does and
 -- an on secondary arc leaves the node, 1 otherwise. The four cases exclude each other, so each reading holds both ways.
 -- Assumes nothing.
-use mathlib.Core.Path.{_≡_, refl, sym, _∙_, ap}
+use mathlib.Core.Path.{_≡_, refl}
 use mathlib.Core.Logic.{_≢_, _↔_, _⊎_, inl, inr}
-use mathlib.Core.Bool.{Bool, true, false, cond, _&&_, _||_, not}
-use Prim.Native.Nat.{ℕ, zero, suc, _+_, _≤_, _<_}
+use mathlib.Core.Bool.{true, false, _||_, not}
+use Prim.Native.Nat.{ℕ, _≤_}
 use native.Mathlib.Omega.{arith}
 use Rattle.finite.specs.Tests.{same}
-use Rattle.finite.specs.Range.{some}
 use Rattle.finite.proofs.Cases.{byBool, byEq, clash}
-use Rattle.finite.proofs.Tests.{is-same, same-is, not-same, same-not, and-l, and-r, or-yes-l, or-yes-r, or-no, or-no-l, or-no-r}
+use Rattle.finite.proofs.Tests.{is-same, same-is, not-same, and-l, and-r, or-yes-r}
 use Rattle.finite.proofs.Every.{some-at, is-some}
 use Rattle.topology.specs.Networks.{Network, Node}
 use Rattle.topology.specs.Switchings.{Switching, onSecondary}

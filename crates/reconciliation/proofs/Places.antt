@@ -3,15 +3,14 @@
 -- Assumes nothing.
 use mathlib.Core.Path.{_≡_, refl, sym, _∙_, ap}
 use mathlib.Core.Logic.{_≢_, _⊎_, inl, inr, ⊎-elim}
-use mathlib.Core.Bool.{Bool, true, false, cond, _&&_}
+use mathlib.Core.Bool.{true}
 use Prim.Native.Nat.{ℕ, zero, suc, _+_, _-_, _≤_, _<_}
 use native.Mathlib.Omega.{arith}
-use Rattle.finite.specs.Tests.{same}
-use Rattle.finite.proofs.Cases.{byBool, byEq, clash, measure}
+use Rattle.finite.proofs.Cases.{byEq, measure}
 use Rattle.finite.proofs.Tests.{is-same, not-same, and-yes}
 use Rattle.topology.specs.Networks.{Network, Node, Sound}
 use Rattle.topology.specs.Switchings.{Switching, above, lca}
-use Rattle.topology.proofs.Above.{above-self, above-trans, lca-spec}
+use Rattle.topology.proofs.Above.{lca-spec}
 use Rattle.topology.proofs.Lca.{lca-left, lca-right, lca-node}
 use Rattle.reconciliation.specs.GeneTrees.{GeneTree, Rooted, Seated}
 use Rattle.reconciliation.specs.Mapping.{placeIn, place}

@@ -3,16 +3,15 @@
 -- Assumes nothing.
 use mathlib.Core.Path.{_≡_, refl, sym, _∙_, ap}
 use mathlib.Core.Logic.{_≢_}
-use mathlib.Core.Bool.{Bool, true, false, cond, _&&_, not, and-true, and-false}
-use Prim.Native.Nat.{ℕ, zero, suc, _+_, _≤_, _<_}
+use mathlib.Core.Bool.{Bool, true, false, cond, _&&_, not, and-false}
+use Prim.Native.Nat.{ℕ, _+_, _<_}
 use native.Mathlib.Omega.{arith}
 use Rattle.finite.specs.Tests.{same, tally}
 use Rattle.finite.specs.Range.{sum, count}
 use Rattle.finite.proofs.Cases.{byBool, byEq, clash}
 use Rattle.finite.proofs.Tests.{is-same, not-same}
 use Rattle.finite.proofs.Sum.{sum-same, sum-zero, sum-point}
-use Rattle.finite.proofs.Count.{count-zero}
-use Rattle.topology.specs.Climbing.{Falls, along}
+use Rattle.topology.specs.Climbing.{along}
 use Rattle.topology.specs.Networks.{Network, Node, Sound}
 use Rattle.topology.specs.Switchings.{Switching, onSecondary, parent, height, above}
 use Rattle.topology.proofs.Climbing.{along-stop, along-go}
