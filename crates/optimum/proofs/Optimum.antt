@@ -4,12 +4,12 @@
 -- Assumes nothing.
 use mathlib.Core.Path.{_≡_, refl, sym, _∙_}
 use mathlib.Core.Logic.{_↔_}
-use Prim.Native.Nat.{ℕ, _^_, _≤_, _<_}
+use Prim.Native.Nat.{ℕ, _+_, _*_, _^_, _≤_, _<_}
 use native.Mathlib.Nat.{one-le-pow}
 use native.Mathlib.Omega.{arith}
 use Rattle.finite.specs.Range.{sum}
 use Rattle.finite.proofs.Cases.{byEq, byLess}
-use Rattle.finite.proofs.Sum.{sum-same}
+use Rattle.finite.proofs.Sum.{sum-same, sum-add, sum-mul}
 use Rattle.finite.proofs.Least.{least-is, least-first, least-in}
 use Rattle.topology.specs.Networks.{Network, Sound, Reticulation}
 use Rattle.topology.specs.Switchings.{Switching, NotAfter, equal, before}
@@ -34,6 +34,19 @@ order-left h (before r d f a b) = before r d (λ q l m. h q m ∙ f q l m) (h r 
 pub order-right : {D : ℕ → Type 0} {σ ρ τ : Switching} → ((r : ℕ) → D r → ρ r ≡ τ r) → NotAfter D σ τ → NotAfter D σ ρ
 order-right h (equal f) = equal (λ r d. f r d ∙ sym (h r d))
 order-right h (before r d f a b) = before r d (λ q l m. f q l m ∙ sym (h q m)) a (h r d ∙ b)
+
+-- sums and multiples of local costs are local
+pub local-add : (N : Network) (a b : Switching → ℕ) (v w : Switching → ℕ → ℕ) → Local N a v → Local N b w → Local N (λ σ. a σ + b σ) (λ σ x. v σ x + w σ x)
+local-add N a b v w L M = record {
+  sums = λ σ. omega (arith, L .sums σ, M .sums σ, sum-add (N .size) (v σ) (w σ));
+  near = λ σ τ x k h. omega (arith, L .near σ τ x k h, M .near σ τ x k h);
+}
+
+pub local-mul : (N : Network) (c : ℕ) (a : Switching → ℕ) (v : Switching → ℕ → ℕ) → Local N a v → Local N (λ σ. c * a σ) (λ σ x. c * v σ x)
+local-mul N c a v L = record {
+  sums = λ σ. rw (sum-mul (N .size) c (v σ), L .sums σ);
+  near = λ σ τ x k h. rw (L .near σ τ x k h);
+}
 
 module _ (N : Network) (ok : Sound N) (cost : Switching → ℕ) (charges : Switching → ℕ → ℕ) (L : Local N cost charges) where
   separable : Separable (N .size) (Reticulation N) (component N) charges

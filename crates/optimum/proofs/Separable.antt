@@ -61,49 +61,50 @@ mix-skip part a b k r d =
 
 module _ (n : ℕ) (D : ℕ → Type 0) (part : ℕ → ℕ) (w : Switching → ℕ → ℕ) (S : Separable n D part w) (best : ℕ → Switching)
     (B : BestParts n D part w best) (τ : Switching) where
-  abbrev star : Switching
-  star = joined part best
+  abbrev whole : Switching
+  whole = joined part best
 
-  abbrev hybrid : ℕ → Switching
-  hybrid = mix part star τ
+  -- τ with the parts below k exchanged for the best ones
+  abbrev exchanged : ℕ → Switching
+  exchanged = mix part whole τ
 
   abbrev cost : Switching → ℕ
   cost σ = sum n (w σ)
 
   -- one part exchanged: the identity of four sums
-  four : (c : ℕ) → cost (hybrid (suc c)) + cost (only part c τ) ≡ cost (hybrid c) + cost (only part c (best c))
+  four : (c : ℕ) → cost (exchanged (suc c)) + cost (only part c τ) ≡ cost (exchanged c) + cost (only part c (best c))
   unfolding joined
-  four c = sum-four n (w (hybrid (suc c))) (w (only part c τ)) (w (hybrid c)) (w (only part c (best c))) (λ v l u. byEq (part v) c (here v l u) (there v l u))
+  four c = sum-four n (w (exchanged (suc c))) (w (only part c τ)) (w (exchanged c)) (w (only part c (best c))) (λ v l u. byEq (part v) c (here v l u) (there v l u))
     where
-      here : (v : ℕ) → 1 ≤ v → v ≤ n → part v ≡ c → w (hybrid (suc c)) v + w (only part c τ) v ≡ w (hybrid c) v + w (only part c (best c)) v
+      here : (v : ℕ) → 1 ≤ v → v ≤ n → part v ≡ c → w (exchanged (suc c)) v + w (only part c τ) v ≡ w (exchanged c) v + w (only part c (best c)) v
       here v l u e =
-          let a : w (hybrid (suc c)) v ≡ w (only part c (best c)) v =
-          S .near (hybrid (suc c)) (only part c (best c)) v l u (λ r _ q.
+          let a : w (exchanged (suc c)) v ≡ w (only part c (best c)) v =
+          S .near (exchanged (suc c)) (only part c (best c)) v l u (λ r _ q.
           let e₂ : part r ≡ c = q ∙ e in
-          mix-low part star τ (suc c) r (omega arith) ∙ ap (λ (k : ℕ). best k r) e₂ ∙ sym (only-in part c (best c) r e₂)) in
-          let b : w (only part c τ) v ≡ w (hybrid c) v =
-          S .near (only part c τ) (hybrid c) v l u (λ r _ q.
+          mix-low part whole τ (suc c) r (omega arith) ∙ ap (λ (k : ℕ). best k r) e₂ ∙ sym (only-in part c (best c) r e₂)) in
+          let b : w (only part c τ) v ≡ w (exchanged c) v =
+          S .near (only part c τ) (exchanged c) v l u (λ r _ q.
           let e₂ : part r ≡ c = q ∙ e in
-          only-in part c τ r e₂ ∙ sym (mix-high part star τ c r (omega arith))) in
+          only-in part c τ r e₂ ∙ sym (mix-high part whole τ c r (omega arith))) in
           omega arith
 
-      there : (v : ℕ) → 1 ≤ v → v ≤ n → part v ≢ c → w (hybrid (suc c)) v + w (only part c τ) v ≡ w (hybrid c) v + w (only part c (best c)) v
+      there : (v : ℕ) → 1 ≤ v → v ≤ n → part v ≢ c → w (exchanged (suc c)) v + w (only part c τ) v ≡ w (exchanged c) v + w (only part c (best c)) v
       there v l u d =
-          let a : w (hybrid (suc c)) v ≡ w (hybrid c) v =
-          S .near (hybrid (suc c)) (hybrid c) v l u (λ r _ q. mix-skip part star τ c r (λ e. d (sym q ∙ e))) in
+          let a : w (exchanged (suc c)) v ≡ w (exchanged c) v =
+          S .near (exchanged (suc c)) (exchanged c) v l u (λ r _ q. mix-skip part whole τ c r (λ e. d (sym q ∙ e))) in
           let b : w (only part c τ) v ≡ w (only part c (best c)) v =
           S .near (only part c τ) (only part c (best c)) v l u (λ r _ q.
           only-out part c τ r (λ e. d (sym q ∙ e)) ∙ sym (only-out part c (best c) r (λ e. d (sym q ∙ e)))) in
           omega arith
 
-  begins : cost (hybrid 0) ≡ cost τ
-  begins = sum-same n (w (hybrid 0)) (w τ) (λ v l u. S .near (hybrid 0) τ v l u (λ r _ q. mix-high part star τ 0 r (omega arith)))
+  begins : cost (exchanged 0) ≡ cost τ
+  begins = sum-same n (w (exchanged 0)) (w τ) (λ v l u. S .near (exchanged 0) τ v l u (λ r _ q. mix-high part whole τ 0 r (omega arith)))
 
-  ends : cost (hybrid (suc n)) ≡ cost star
-  ends = sum-same n (w (hybrid (suc n))) (w star) (λ v l u. S .near (hybrid (suc n)) star v l u (λ r t q. mix-low part star τ (suc n) r (omega (arith, S .parts r t))))
+  ends : cost (exchanged (suc n)) ≡ cost whole
+  ends = sum-same n (w (exchanged (suc n))) (w whole) (λ v l u. S .near (exchanged (suc n)) whole v l u (λ r t q. mix-low part whole τ (suc n) r (omega (arith, S .parts r t))))
 
   -- the parts below k exchanged
-  chain : (k : ℕ) → cost (hybrid k) ≤ cost τ
+  chain : (k : ℕ) → cost (exchanged k) ≤ cost τ
   chain zero = omega (arith, begins)
   chain (suc c) = omega (arith, chain c, four c, B .least c τ)
 
@@ -111,12 +112,12 @@ module _ (n : ℕ) (D : ℕ → Type 0) (part : ℕ → ℕ) (w : Switching → 
   pub joined-least : cost (joined part best) ≤ cost τ
   joined-least = omega (arith, chain (suc n), ends)
 
-  tight : (k : ℕ) → cost (hybrid k) ≡ cost τ → (c : ℕ) → c < k → cost (only part c (best c)) ≡ cost (only part c τ)
+  tight : (k : ℕ) → cost (exchanged k) ≡ cost τ → (c : ℕ) → c < k → cost (only part c (best c)) ≡ cost (only part c τ)
   tight zero e c l = absurd (omega arith)
   tight (suc j) e c l = byEq c j (λ q. rw q (omega (arith, four j, B .least j τ, chain j)))
       (λ q. tight j (omega (arith, four j, B .least j τ, chain j)) c (omega arith))
 
-  loose : ((c : ℕ) → c ≤ n → cost (only part c (best c)) ≡ cost (only part c τ)) → (k : ℕ) → k ≤ suc n → cost (hybrid k) ≡ cost τ
+  loose : ((c : ℕ) → c ≤ n → cost (only part c (best c)) ≡ cost (only part c τ)) → (k : ℕ) → k ≤ suc n → cost (exchanged k) ≡ cost τ
   loose h zero l = begins
   loose h (suc c) l = omega (arith, loose h c (omega arith), four c, h c (omega arith))
 
@@ -127,19 +128,19 @@ module _ (n : ℕ) (D : ℕ → Type 0) (part : ℕ → ℕ) (w : Switching → 
   -- of those that cost as little, this one is the first
   pub joined-first : cost (joined part best) ≡ cost τ → NotAfter D (joined part best) τ
   unfolding joined
-  joined-first e = go (difference D (S .test) star τ (suc n))
+  joined-first e = go (difference D (S .test) whole τ (suc n))
     where
       each : (c : ℕ) → c ≤ n → NotAfter (λ r. D r × (part r ≡ c)) (best c) τ
       each c l = B .first c τ (least-parts .0 e c l)
 
-      meet : (r : ℕ) → D r → ((q : ℕ) → q < r → D q → star q ≡ τ q) → star r ≢ τ r
-          → NotAfter (λ q. D q × (part q ≡ part r)) (best (part r)) τ → NotAfter D star τ
+      meet : (r : ℕ) → D r → ((q : ℕ) → q < r → D q → whole q ≡ τ q) → whole r ≢ τ r
+          → NotAfter (λ q. D q × (part q ≡ part r)) (best (part r)) τ → NotAfter D whole τ
       meet r d f x (equal g) = absurd (x (g r (d, refl)))
       meet r d f x (before q (d₂, e₂) g off on) =
           byOrder q r (λ l. let own : best (part q) q ≡ τ q = f q l d₂ in clash on (sym own ∙ ap (λ (k : ℕ). best k q) e₂ ∙ off))
           (λ u. before r d f (rw u at off) (rw u at on))
           (λ l. absurd (x (g r l (d, refl))))
 
-      go : Difference D star τ (suc n) → NotAfter D star τ
+      go : Difference D whole τ (suc n) → NotAfter D whole τ
       go (none f) = equal (λ r d. f r (omega (arith, S .high r d)) d)
       go (at r d f x) = meet r d f x (each (part r) (S .parts r d))

@@ -12,12 +12,12 @@ use Rattle.finite.specs.Range.{count}
 use Rattle.finite.proofs.Cases.{byBool, byEq, byOrder, byLess, clash}
 use Rattle.finite.proofs.Tests.{is-same, not-same, is-under, not-under, and-no-r, tally-le}
 use Rattle.finite.proofs.Sum.{sum-suc, sum-zero-range, sum-add, sum-point}
-use Rattle.finite.proofs.Count.{count-zero}
+use Rattle.finite.proofs.Count.{count-zero, count-find}
 use Rattle.topology.specs.Networks.{Network, Sound, Reticulation}
 use Rattle.topology.specs.Switchings.{Switching, NotAfter, equal, before}
-use Rattle.topology.specs.Components.{component, memberOf, members, indexOf, membersAfter, settingOf, Agree}
+use Rattle.topology.specs.Components.{isTop, component, memberOf, members, indexOf, membersAfter, settingOf, Agree}
 use Rattle.topology.proofs.Above.{reticulation-node}
-use Rattle.topology.proofs.Components.{member-is, is-member}
+use Rattle.topology.proofs.Components.{top-component, member-is, is-member}
 
 -- the number that σ writes at the places of d up to k, the first place being the highest digit
 unfoldable number : (ℕ → Bool) → Switching → ℕ → ℕ
@@ -209,6 +209,13 @@ module _ (N : Network) (ok : Sound N) (c : ℕ) where
   pub setting-principal : (r : ℕ) → settingOf N c 0 r ≡ false
   unfolding settingOf
   setting-principal r = rw (zero-div (2 ^ membersAfter N c r)) (and-no-r (memberOf N c r) _ (not-same {m = 0} {n = 1} (omega arith)))
+
+-- only a top has reticulations of its own: the others are in no component of that number
+pub members-top : (N : Network) → Sound N → (c : ℕ) → 1 ≤ members N c → isTop N c ≡ true
+unfolding members
+members-top N ok c l =
+    let r = count-find (N .size) (memberOf N c) l in
+    rw (← member-is N c (r .0) (r .3) .1) (top-component N ok (r .0))
 
 -- the places of d before r, r and those after it
 count-split : (n r : ℕ) (f : ℕ → Bool) → 1 ≤ r → r ≤ n → f r ≡ true → count n f ≡ count n (λ q. f q && under q r) + 1 + count n (λ q. f q && under r q)

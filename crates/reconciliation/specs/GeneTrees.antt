@@ -13,7 +13,7 @@ pub record GeneTree : Type 0 where
   pub leaf : ℕ → ℕ
   pub parent : ℕ → ℕ
 
--- a tree with root 1 in which children have higher numbers than their parents, and what is no gene has no children
+-- a tree with root 1 in which children have higher numbers than their parents; a parent has two children, and what is no gene has none
 pub record Rooted (G : GeneTree) : Type 0 where
   pub some : 1 ≤ G .count
   pub root : G .parent 1 ≡ 0
