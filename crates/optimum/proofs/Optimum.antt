@@ -72,10 +72,6 @@ module _ (N : Network) (ok : Sound N) (cost : Switching → ℕ) (charges : Swit
   own : (c : ℕ) → sum (N .size) (charges (only (component N) c (settingOf N c (bestSetting N cost c)))) ≡ trial N cost c (bestSetting N cost c)
   own c = alone c (bestSetting N cost c) (settingOf N c (bestSetting N cost c)) (λ r _ _. refl)
 
-  best-low : (c : ℕ) → bestSetting N cost c < 2 ^ members N c
-  unfolding bestSetting
-  best-low c = least-in (trial N cost c) (2 ^ members N c) (one-le-pow (members N c) 2 (omega arith))
-
   -- the first least setting of a component is least among all choices there, and the first of those that are as little
   best-least : (c x : ℕ) → x < 2 ^ members N c → trial N cost c (bestSetting N cost c) ≤ trial N cost c x
   unfolding bestSetting
@@ -84,6 +80,10 @@ module _ (N : Network) (ok : Sound N) (cost : Switching → ℕ) (charges : Swit
   best-first : (c x : ℕ) → trial N cost c (bestSetting N cost c) ≡ trial N cost c x → bestSetting N cost c ≤ x
   unfolding bestSetting
   best-first c x e = byLess x (bestSetting N cost c) (λ m. absurd (omega (arith, least-first (trial N cost c) (2 ^ members N c) x m))) (λ m. m)
+
+  best-low : (c : ℕ) → bestSetting N cost c < 2 ^ members N c
+  unfolding bestSetting
+  best-low c = least-in (trial N cost c) (2 ^ members N c) (one-le-pow (members N c) 2 (omega arith))
 
   best-parts : BestParts (N .size) (Reticulation N) (component N) charges (λ c. settingOf N c (bestSetting N cost c))
   best-parts = record {
