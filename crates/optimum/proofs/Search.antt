@@ -1,7 +1,7 @@
 -- The search over a network's components: the turns of its two loops on a table of bests and a count, and its last state, whose bests are each
 -- component's first least setting. So what the table holds when no setting is left is the switching of demand 3.
 -- Assumes nothing.
-use mathlib.Core.Path.{_≡_, refl, sym, _∙_, ap, fun-ext}
+use mathlib.Core.Path.{_≡_, _∙_, ap, fun-ext}
 use mathlib.Core.List.{List}
 use Prim.Native.Nat.{ℕ, zero, suc, _+_, _≤_, _<_}
 use native.Mathlib.Numerals.{add-one}
@@ -21,56 +21,50 @@ use Rattle.topology.proofs.Above.{reticulation-node}
 use Rattle.topology.proofs.Components.{component-node}
 use Rattle.reconciliation.specs.GeneTrees.{GeneTree, Rooted, Seated}
 use Rattle.reconciliation.specs.Mapping.{Costs, lcaCost}
-use Rattle.optimum.specs.Charges.{charge}
 use Rattle.optimum.specs.Optimum.{Least, Local, trial, bestSetting, assembled, settings, trials, trialCost, best, chosen, Optimal}
-use Rattle.optimum.specs.Machine.{State, put, lesser, start, scored, after, scoredOf, searchAfter, AsScored, Holds}
-use Rattle.optimum.proofs.Optimum.{assembled-least, least-agree, lca-local}
+use Rattle.optimum.specs.Machine.{State, start, scored, after, scoredOf, searchAfter, AsScored, stateOf}
+use Rattle.optimum.proofs.Optimum.{assembled-least, least-agree, optimal-agree}
 use Rattle.optimum.proofs.Machine.{put-table, put-same, lesser-take, lesser-keep, after-count, after-turn, after-bests, last-bests, step-none}
 
--- the turns of a loop over the components k + 1 and, in it, a loop over their settings x, on a table of bests and a count
-module _ (n : ℕ) (settings : ℕ → ℕ) (trial : ℕ → ℕ → ℕ) (l : List ℕ) (t : ℕ) where
-  pub search-start : ((v : ℕ) → at l v ≡ 0) → Holds l 0 (after n settings trial (sum 0 settings + 0))
-  unfolding after start sum
-  search-start z = record { table = fun-ext z; number = refl }
+-- one step on a table of bests and a count: setting x of component c costs less than the best so far, or it does not
+module _ (trial : ℕ → ℕ → ℕ) (l : List ℕ) (t c x : ℕ) where
+  pub score-take : c < length l → trial c x < trial c (at l c) → stateOf (set l c x) (t + 1) ≡ scored trial c x (stateOf l t)
+  unfolding stateOf scored
+  score-take b less = rw (put-table l c x b, lesser-take (trial c) (at l c) x less, add-one t)
 
-  turn : (k x : ℕ) → Holds l t (after n settings trial (sum k settings + x)) → k < n → x < settings (k + 1)
-      → after n settings trial (sum k settings + (x + 1)) ≡ record { bests = put (at l) (k + 1) (lesser (trial (k + 1)) (at l (k + 1)) x); count = t + 1 }
-  unfolding scored
-  turn k x h u m =
-      let e : sum k settings + (x + 1) ≡ suc (sum k settings + x) = omega arith in
-      rw (e, after-turn n settings trial k x u (rw add-one at m), ← h .table, ← h .number, add-one k, add-one t)
+  pub score-keep : trial c (at l c) ≤ trial c x → stateOf l (t + 1) ≡ scored trial c x (stateOf l t)
+  unfolding stateOf scored
+  score-keep more = rw (lesser-keep (trial c) (at l c) x more, put-same (at l) c, add-one t)
 
-  -- setting x costs less than the best so far, or it does not
-  pub search-take : (k x : ℕ) → Holds l t (after n settings trial (sum k settings + x)) → k < n → x < settings (k + 1) → k + 1 < length l
-      → trial (k + 1) x < trial (k + 1) (at l (k + 1)) → Holds (set l (k + 1) x) (t + 1) (after n settings trial (sum k settings + (x + 1)))
-  search-take k x h u m b less = record {
-    table = put-table l (k + 1) x b ∙ ap (put (at l) (k + 1)) (sym (lesser-take (trial (k + 1)) (at l (k + 1)) x less)) ∙ sym (ap (λ (s : State). s .bests) (turn k x h u m));
-    number = sym (ap (λ (s : State). s .count) (turn k x h u m));
-  }
+-- the turns of a loop over the components k + 1 and, in it, a loop over their settings x; s is the state now, r the state after the step
+module _ (n : ℕ) (settings : ℕ → ℕ) (trial : ℕ → ℕ → ℕ) where
+  pub search-start : (l : List ℕ) → ((v : ℕ) → at l v ≡ 0) → stateOf l 0 ≡ after n settings trial (sum 0 settings + 0)
+  unfolding stateOf after start sum
+  search-start l z = rw (fun-ext z)
 
-  pub search-keep : (k x : ℕ) → Holds l t (after n settings trial (sum k settings + x)) → k < n → x < settings (k + 1)
-      → trial (k + 1) (at l (k + 1)) ≤ trial (k + 1) x → Holds l (t + 1) (after n settings trial (sum k settings + (x + 1)))
-  search-keep k x h u m more = record {
-    table = sym (put-same (at l) (k + 1)) ∙ ap (put (at l) (k + 1)) (sym (lesser-keep (trial (k + 1)) (at l (k + 1)) x more)) ∙ sym (ap (λ (s : State). s .bests) (turn k x h u m));
-    number = sym (ap (λ (s : State). s .count) (turn k x h u m));
-  }
+  pub search-turn : (s r : State) (k x : ℕ) → s ≡ after n settings trial (sum k settings + x) → k < n → x < settings (k + 1) → r ≡ scored trial (k + 1) x s
+      → r ≡ after n settings trial (sum k settings + (x + 1))
+  search-turn s r k x h u m e =
+      let q : sum k settings + (x + 1) ≡ suc (sum k settings + x) = omega arith in
+      rw (q, after-turn n settings trial k x u (rw add-one at m), ← h, ← add-one k) e
 
   -- all settings of component k + 1 are scored, and those of all components
-  pub search-next : (k x : ℕ) → Holds l t (after n settings trial (sum k settings + x)) → x ≤ settings (k + 1) → settings (k + 1) ≤ x
-      → Holds l t (after n settings trial (sum (k + 1) settings + 0))
-  search-next k x h a b = let e : sum k settings + x ≡ sum (k + 1) settings + 0 = omega (arith, sum-more k settings) in rw e at h
+  pub search-next : (s : State) (k x : ℕ) → s ≡ after n settings trial (sum k settings + x) → x ≤ settings (k + 1) → settings (k + 1) ≤ x
+      → s ≡ after n settings trial (sum (k + 1) settings + 0)
+  search-next s k x h a b = let e : sum k settings + x ≡ sum (k + 1) settings + 0 = omega (arith, sum-more k settings) in rw e at h
 
-  pub search-done : (k : ℕ) → Holds l t (after n settings trial (sum k settings + 0)) → k ≤ n → n ≤ k → Holds l t (after n settings trial (sum n settings))
-  search-done k h a b = let e : sum k settings + 0 ≡ sum n settings = omega (arith, ap (λ (i : ℕ). sum i settings) (k-is a b)) in rw e at h
-    where
-      k-is : k ≤ n → n ≤ k → k ≡ n
-      k-is a b = omega arith
+  pub search-done : (s : State) (k : ℕ) → s ≡ after n settings trial (sum k settings + 0) → k ≤ n → n ≤ k → s ≡ after n settings trial (sum n settings)
+  search-done s k h a b =
+      let q : k ≡ n = omega arith in
+      let e : sum k settings + 0 ≡ sum n settings = omega (arith, ap (λ (i : ℕ). sum i settings) q) in
+      rw e at h
 
-  -- the count stays at the number of settings scored
-  pub search-counted : (p : ℕ) → Holds l t (after n settings trial p) → p ≤ sum n settings → t ≡ p
-  search-counted p h u = h .number ∙ after-count n settings trial p u
+  -- the count is the number of settings scored
+  pub search-counted : (l : List ℕ) (t p : ℕ) → stateOf l t ≡ after n settings trial p → p ≤ sum n settings → t ≡ p
+  unfolding stateOf
+  search-counted l t p h u = ap (λ (s : State). s .count) h ∙ after-count n settings trial p u
 
-pub ruleset search-loop = (search-start, search-take, search-keep, search-next, search-done)
+pub ruleset search-loop = (score-take, score-keep, search-start, search-turn, search-next, search-done)
 
 -- the search over the components of a network, for any cost
 module _ (N : Network) (ok : Sound N) (cost : Switching → ℕ) where
@@ -125,24 +119,27 @@ search-stops N G C (suc k) =
     rw (e, h) (step-none (N .size) (settings N) (trialCost N G C) (searchAfter N G C (trials N)) (omega (arith, after-count (N .size) (settings N) (trialCost N G C) (trials N) (omega arith))))
 
 -- the loop over the components of a network ends in the last state
-pub search-end : (N : Network) (G : GeneTree) (C : Costs) (l : List ℕ) (t k : ℕ)
-    → Holds l t (after (N .size) (settings N) (trialCost N G C) (sum k (settings N) + 0)) → k ≤ N .size → N .size ≤ k → Holds l t (searchAfter N G C (trials N))
+pub search-end : (N : Network) (G : GeneTree) (C : Costs) (s : State) (k : ℕ)
+    → s ≡ after (N .size) (settings N) (trialCost N G C) (sum k (settings N) + 0) → k ≤ N .size → N .size ≤ k → s ≡ searchAfter N G C (trials N)
 unfolding trials
-search-end N G C l t k = search-done (N .size) (settings N) (trialCost N G C) l t k
+search-end N G C s k = search-done (N .size) (settings N) (trialCost N G C) s k
 
--- on a table and a count that hold the last state
-module _ (N : Network) (ok : Sound N) (G : GeneTree) (C : Costs) (l : List ℕ) (t : ℕ)
-    (h : Holds l t (searchAfter N G C (trials N))) where
-  pub held-count : t ≡ trials N
-  held-count = h .number ∙ search-count N ok (lcaCost N G C)
+-- what a table and a count that hold the last state say
+module _ (N : Network) (ok : Sound N) (G : GeneTree) (C : Costs) (l : List ℕ) (t : ℕ) (h : stateOf l t ≡ searchAfter N G C (trials N)) where
+  pub last-count : t ≡ trials N
+  unfolding stateOf
+  last-count = ap (λ (s : State). s .count) h ∙ search-count N ok (lcaCost N G C)
 
-  pub held-best : (c : ℕ) → 1 ≤ c → c ≤ N .size → at l c ≡ best N G C c
-  held-best c a b = ap (λ (f : ℕ → ℕ). f c) (h .table) ∙ search-bests N ok (lcaCost N G C) c a b
+  last-table : at l ≡ searchAfter N G C (trials N) .bests
+  unfolding stateOf
+  last-table = ap (λ (s : State). s .bests) h
 
-  pub held-chosen : (r : ℕ) → Reticulation N r → assembled N (at l) r ≡ chosen N G C r
-  held-chosen r d = ap (λ (f : ℕ → ℕ). assembled N f r) (h .table) ∙ search-agree N ok (lcaCost N G C) r d
+  pub last-best : (c : ℕ) → 1 ≤ c → c ≤ N .size → at l c ≡ best N G C c
+  last-best c a b = ap (λ (f : ℕ → ℕ). f c) last-table ∙ search-bests N ok (lcaCost N G C) c a b
+
+  pub last-chosen : (r : ℕ) → Reticulation N r → assembled N (at l) r ≡ chosen N G C r
+  last-chosen r d = ap (λ (f : ℕ → ℕ). assembled N f r) last-table ∙ search-agree N ok (lcaCost N G C) r d
 
   -- the switching reported is the theorem's
-  pub held-optimal : Rooted G → Seated N G → Optimal N G C (assembled N (at l))
-  held-optimal g s = least-agree N ok (lcaCost N G C) (charge N G C) (lca-local N ok G g s C) (chosen N G C) (assembled N (at l))
-      (assembled-least N ok (lcaCost N G C) (charge N G C) (lca-local N ok G g s C)) held-chosen
+  pub last-optimal : Rooted G → Seated N G → Optimal N G C (assembled N (at l))
+  last-optimal g s = optimal-agree N ok G g s C (assembled N (at l)) last-chosen

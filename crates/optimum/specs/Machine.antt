@@ -66,7 +66,6 @@ pub record AsScored (N : Network) (G : GeneTree) (C : Costs) (t : ℕ) (s : Stat
   pub count : s .count ≡ t
   pub bests : (c : ℕ) → 1 ≤ c → c ≤ N .size → s .bests c ≡ firstLeast (trialCost N G C c) (scoredOf (settings N) c t)
 
--- a table of the bests by top, and a number, hold a state
-pub record Holds (bests : List ℕ) (count : ℕ) (s : State) : Type 0 where
-  pub table : at bests ≡ s .bests
-  pub number : count ≡ s .count
+-- the state that a table of the bests by top and a number hold
+unfoldable pub stateOf : List ℕ → ℕ → State
+stateOf bests count = record { bests = at bests; count = count }
