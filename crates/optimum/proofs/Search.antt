@@ -26,32 +26,33 @@ use Rattle.optimum.specs.Machine.{State, start, scored, after, scoredOf,
 use Rattle.optimum.proofs.Optimum.{assembled-least, least-agree, optimal-agree}
 use Rattle.optimum.proofs.Machine.{put-table, put-same, lesser-take, lesser-keep, after-count, after-turn, after-bests, last-bests, step-none}
 
--- one step on a table of bests and a count: setting x of component c costs less than the best so far, or it does not
-module _ (trial : ℕ → ℕ → ℕ) (l : List ℕ) (t c x : ℕ) where
-  pub score-take : c < length l → trial c x < trial c (at l c) → stateOf (set l c x) (t + 1) ≡ scored trial c x (stateOf l t)
+-- one step on a table of bests and a count: setting x of component c costs a, the best so far costs b
+module _ (trial : ℕ → ℕ → ℕ) (l : List ℕ) (t c x a b : ℕ) where
+  pub score-take : length l ≡ 128 → c ≤ 127 → a ≡ trial c x → b ≡ trial c (at l c) → a < b → stateOf (set l c x) (t + 1) ≡ scored trial c x (stateOf l t)
   unfolding stateOf scored
-  score-take b less = rw (put-table l c x b, lesser-take (trial c) (at l c) x less, add-one t)
+  score-take n u e q less = rw (put-table l c x (omega arith), lesser-take (trial c) (at l c) x (omega arith), add-one t)
 
-  pub score-keep : trial c (at l c) ≤ trial c x → stateOf l (t + 1) ≡ scored trial c x (stateOf l t)
+  pub score-keep : a ≡ trial c x → b ≡ trial c (at l c) → b ≤ a → stateOf l (t + 1) ≡ scored trial c x (stateOf l t)
   unfolding stateOf scored
-  score-keep more = rw (lesser-keep (trial c) (at l c) x more, put-same (at l) c, add-one t)
+  score-keep e q more = rw (lesser-keep (trial c) (at l c) x (omega arith), put-same (at l) c, add-one t)
 
--- the turns of a loop over the components k + 1 and, in it, a loop over their settings x; s is the state now, r the state after the step
+-- the turns of a loop over the components k + 1 and, in it, a loop over their m settings x; s is the state now, r the state after the step
 module _ (n : ℕ) (settings : ℕ → ℕ) (trial : ℕ → ℕ → ℕ) where
   pub search-start : (l : List ℕ) → ((v : ℕ) → at l v ≡ 0) → stateOf l 0 ≡ after n settings trial (sum 0 settings + 0)
   unfolding stateOf after start sum
   search-start l z = rw (fun-ext z)
 
-  pub search-turn : (s r : State) (k x : ℕ) → s ≡ after n settings trial (sum k settings + x) → k < n → x < settings (k + 1) → r ≡ scored trial (k + 1) x s
-      → r ≡ after n settings trial (sum k settings + (x + 1))
-  search-turn s r k x h u m e =
-      let q : sum k settings + (x + 1) ≡ suc (sum k settings + x) = omega arith in
-      rw (q, after-turn n settings trial k x u (rw add-one at m), ← h, ← add-one k) e
+  pub search-turn : (s r : State) (k m x : ℕ) → s ≡ after n settings trial (sum k settings + x) → m ≡ settings (k + 1) → k < n → x < m
+      → r ≡ scored trial (k + 1) x s → r ≡ after n settings trial (sum k settings + (x + 1))
+  search-turn s r k m x h q u l e =
+      let p : sum k settings + (x + 1) ≡ suc (sum k settings + x) = omega arith in
+      let o : x < settings (k + 1) = omega arith in
+      rw (p, after-turn n settings trial k x u (rw add-one at o), ← h, ← add-one k) e
 
   -- all settings of component k + 1 are scored, and those of all components
-  pub search-next : (s : State) (k x : ℕ) → s ≡ after n settings trial (sum k settings + x) → x ≤ settings (k + 1) → settings (k + 1) ≤ x
+  pub search-next : (s : State) (k m x : ℕ) → s ≡ after n settings trial (sum k settings + x) → m ≡ settings (k + 1) → x ≤ m → m ≤ x
       → s ≡ after n settings trial (sum (k + 1) settings + 0)
-  search-next s k x h a b = let e : sum k settings + x ≡ sum (k + 1) settings + 0 = omega (arith, sum-more k settings) in rw e at h
+  search-next s k m x h q a b = let e : sum k settings + x ≡ sum (k + 1) settings + 0 = omega (arith, sum-more k settings) in rw e at h
 
   pub search-done : (s : State) (k : ℕ) → s ≡ after n settings trial (sum k settings + 0) → k ≤ n → n ≤ k → s ≡ after n settings trial (sum n settings)
   search-done s k h a b =
