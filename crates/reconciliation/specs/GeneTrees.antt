@@ -13,7 +13,7 @@ pub record GeneTree : Type 0 where
   pub leaf : ℕ → ℕ
   pub parent : ℕ → ℕ
 
--- a tree with root 1 in which children have higher numbers than their parents, and what is no gene has no children
+-- a tree with root 1 in which children have higher numbers than their parents; a parent has two children, and what is no gene has none
 pub record Rooted (G : GeneTree) : Type 0 where
   pub some : 1 ≤ G .count
   pub root : G .parent 1 ≡ 0
@@ -26,6 +26,7 @@ pub record Rooted (G : GeneTree) : Type 0 where
   pub apart : (g : ℕ) → G .left g ≢ 0 → G .left g ≢ G .right g
   pub left-parent : (g : ℕ) → G .left g ≢ 0 → G .parent (G .left g) ≡ g
   pub right-parent : (g : ℕ) → G .left g ≢ 0 → G .parent (G .right g) ≡ g
+  pub parent-inner : (g : ℕ) → G .parent g ≢ 0 → G .left (G .parent g) ≢ 0
   pub is-child : (g : ℕ) → G .parent g ≢ 0 → (G .left (G .parent g) ≡ g) ⊎ (G .right (G .parent g) ≡ g)
 
 -- each leaf gene sits at a node

@@ -1,0 +1,4 @@
+pub mod Charges
+pub mod Separable
+pub mod Optimum
+pub mod Machine
