@@ -19,6 +19,15 @@ pub written-nil : (d : List ℕ) → d ≡ written d []
 unfolding written
 written-nil d = refl
 
+pub put-nil : (d : List ℕ) (at : ℕ) → d ≡ put d at []
+unfolding put written
+put-nil d at = sym (take-append-drop at d)
+
+-- at the front, `put` and `written` are the same
+pub put-front : (d bs : List ℕ) → put d 0 bs ≡ written d bs
+unfolding put
+put-front d bs = refl
+
 pub length-written : (d bs : List ℕ) → length bs ≤ length d → length (written d bs) ≡ length d
 unfolding written
 length-written d bs h = length-append bs (drop (length bs) d) ∙ omega (arith, length-drop (length bs) d)
@@ -31,6 +40,14 @@ length-put d at bs h = rw (length-append, length-written (drop at d) bs (simp le
 pub put-written : (d p bs : List ℕ) (at : ℕ) → at ≡ length p → put (written d p) at bs ≡ written d (p ++ bs)
 unfolding put written
 put-written d p bs at e = rw (e, take-at p (drop (length p) d) (length p) refl, drop-at p (drop (length p) d) (length p) refl, drop-drop, length-append) (sym (append-assoc p bs _))
+
+pub put-put : (d : List ℕ) (at next : ℕ) (p bs : List ℕ) → at ≤ length d → next ≡ at + length p → put (put d at p) next bs ≡ put d at (p ++ bs)
+unfolding put written
+put-put d at next p bs h e =
+    let f : take at d ++ (p ++ drop (length p) (drop at d)) ≡ (take at d ++ p) ++ drop (length p) (drop at d) = sym (append-assoc (take at d) p _) in
+    let l : length (take at d ++ p) ≡ next = length-append (take at d) p ∙ rw (length-take-le at d h) (sym e) in
+    rw (f, take-at (take at d ++ p) (drop (length p) (drop at d)) next l, drop-at (take at d ++ p) (drop (length p) (drop at d)) next l, drop-drop, length-append)
+    (simp append-assoc)
 
 -- a part from `at` to the end that comes back with bs written: the whole has bs put at `at`
 pub lent : (d e : List ℕ) (at : ℕ) (bs : List ℕ) → at ≤ length d
