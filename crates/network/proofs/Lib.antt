@@ -1,0 +1,5 @@
+pub mod Loops
+pub mod Counting
+pub mod ShortForms
+pub mod Readings
+pub mod Acceptance

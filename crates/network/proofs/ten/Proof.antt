@@ -1,0 +1,68 @@
+use Prim.Native.Nat.{ℕ, _+_, _-_, _≤_}
+use mathlib.Core.Path.{_≡_}
+use mathlib.Core.Bool.{true, false}
+use borrow.Author.Needs.{needs}
+use Rattle.finite.specs.Range.{some, every}
+use Rattle.finite.proofs.Every.{every-loop}
+use Rattle.network.specs.Refusals.{refusal10, onlyReticulationsAt}
+use Rattle.network.proofs.Loops.{some-loop}
+use Rattle.network.proofs.ten.Statement.{statement}
+use Rattle.network.proofs.ten.Tie as tie
+use Rattle.network.proofs.ten.Reads as reads
+use Rattle.network.proofs.ten.Lts as lts
+use Rattle.network.proofs.only_reticulations_at.Reads as only-reticulations-at-reads
+
+abbrev Inv-loop : tie.InvT-loop
+Inv-loop n principal secondary v₀ v = (v ≤ n) × (some v (onlyReticulationsAt n principal secondary) ≡ false)
+
+abbrev μ-loop : tie.MeasureT-loop
+μ-loop n principal secondary v₀ v = n - v
+
+-- src/lib.rt:334:5
+loop-holds : tie.Need-loop-holds Inv-loop μ-loop
+loop-holds c = search (needs, some-loop)
+
+-- src/lib.rt:335:59
+add-only-reticulations-at : tie.Need-add-only-reticulations-at Inv-loop μ-loop
+add-only-reticulations-at c = search needs
+
+-- src/lib.rt:335:12
+only-reticulations-at-requires : tie.Need-only-reticulations-at-requires Inv-loop μ-loop
+only-reticulations-at-requires c κs = search needs
+
+-- src/lib.rt:336:13
+returns : tie.Need-returns Inv-loop μ-loop
+unfolding refusal10
+returns c = search (needs, some-loop)
+
+-- src/lib.rt:338:9
+add-v : tie.Need-add-v Inv-loop μ-loop
+add-v c = search needs
+
+-- src/lib.rt:334:5
+loop-less : tie.Need-loop-less Inv-loop μ-loop
+loop-less c = search needs
+
+-- src/lib.rt:334:5
+loop-again : tie.Need-loop-again Inv-loop μ-loop
+loop-again c = search (needs, some-loop)
+
+-- src/lib.rt:329:1
+returns-2 : tie.Need-returns-2 Inv-loop μ-loop
+unfolding refusal10
+returns-2 c = search (needs, some-loop)
+
+pub ten-spec : {M : Type 1} → statement M
+ten-spec =
+    tie.close
+    (tie.spec
+    Inv-loop
+    μ-loop
+    loop-holds
+    add-only-reticulations-at
+    only-reticulations-at-requires
+    returns
+    add-v
+    loop-less
+    loop-again
+    returns-2)

@@ -1,0 +1,4 @@
+pub mod Refusals
+pub mod ShortForms
+pub mod Verdict
+pub mod Tables
