@@ -1,5 +1,9 @@
 pub mod Loops
 pub mod Counting
-pub mod ShortForms
+pub mod Tables
 pub mod Readings
+pub mod ShortForms
 pub mod Acceptance
+pub mod Ways
+pub mod Reckoning
+pub mod Verdicts

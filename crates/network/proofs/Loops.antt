@@ -46,3 +46,7 @@ pub ruleset rest-laws = (or-rest, and-rest, not-rest, and-no-l, and-no-r, and-ye
 -- a turn of the loop that counts the entries that are x: a is the next entry
 pub hit-turn : (xs : List ℕ) (x v r q a : ℕ) → r ≡ count v (λ w. same (at xs w) x) → a ≡ at xs (v + 1) → q ≡ tally (same a x) → r + q ≡ count (v + 1) (λ w. same (at xs w) x)
 hit-turn xs x v r q a h e t = count-turn (λ w. same (at xs w) x) v r q h (t ∙ ap (λ (b : ℕ). tally (same b x)) e)
+
+-- a turn of a loop that counts: b is the test at the next number, q its tally
+pub tally-turn : (f : ℕ → Bool) (v r q : ℕ) (b : Bool) → r ≡ count v f → b ≡ f (v + 1) → q ≡ tally b → r + q ≡ count (v + 1) f
+tally-turn f v r q b h e t = count-turn f v r q h (t ∙ ap (λ (c : Bool). tally c) e)

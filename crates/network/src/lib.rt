@@ -6,7 +6,13 @@ ghost use lib.ListN.{length};
 ghost use Rattle.finite.specs.Tests.{same, under, tally};
 ghost use Rattle.finite.specs.Range.{some, every, children};
 ghost use Rattle.finite.specs.Tables.{at};
-ghost use Rattle.network.specs.Refusals.{badParents, badParentsAt, refusal6, badStamps, badStampsAt, refusal7, reticulationWith, innerWith, leafWith, shapeless, shapelessAt, refusal8, leafAt, refusal9, childWith, childAt, reticulationIfChild, onlyReticulationsAt, refusal10};
+ghost use Rattle.network.specs.Refusals.{badParents, badParentsAt, refusal6, badStamps, badStampsAt, refusal7, reticulationWith, innerWith, leafWith, shapeless, shapelessAt, refusal8, leafAt, refusal9, childWith, childAt, reticulationIfChild, onlyReticulationsAt, refusal10, refusal11};
+ghost use Rattle.network.specs.Verdict.{networkVerdict};
+ghost use Rattle.topology.specs.Networks.{Sound, Node};
+ghost use Rattle.topology.specs.Switchings.{height};
+ghost use Rattle.topology.specs.Components.{component, members, indexOf, memberOf};
+ghost use Rattle.topology.specs.Tables.{networkOf};
+ghost use Rattle.network.specs.Tables.{table, heightWith, heightAt, heightIn, Dated, MarkedWay, MarkedWays, NonTops, memberWith, memberAt, membersFrom, earlierAt, indexFrom, crowdedFrom};
 ghost use Rattle.network.specs.ShortForms.{wrongSpecies, wrongSpeciesAt};
 
 fn wide(x: u32) -> usize
@@ -349,4 +355,341 @@ fn ten(n: usize, principal: &[u32; 128], secondary: &[u32; 128]) -> bool
         v += 1;
     }
     false
+}
+
+fn height_with(v: usize, s: u32, t: u32) -> u64
+    ensures { λ r. ⌜ r ≡ heightWith v s t ⌝ }
+{
+    if v == 0 {
+        return 0;
+    }
+    let low = 2 * (t as u64) + 1;
+    if s == 0 {
+        return low;
+    }
+    low + 1
+}
+
+// The height of node v. Stamps may be any numbers here, so twice a stamp needs 64 bits.
+fn height_at(secondary: &[u32; 128], stamp: &[u32; 128], v: usize) -> u64
+    requires { ⌜ v ≤ 127 ⌝ }
+    ensures { λ r. ⌜ r ≡ heightAt (now (secondary .entry)) (now (stamp .entry)) v ⌝ }
+{
+    height_with(v, secondary[v], stamp[v])
+}
+
+// Marks the nodes on the way between x and y in the principal tree, the one where they meet left out: the climber of larger height goes on.
+fn mark_way(
+    n: usize,
+    principal: &[u32; 128],
+    secondary: &[u32; 128],
+    stamp: &[u32; 128],
+    marks: [u32; 128],
+    x: usize,
+    y: usize,
+) -> [u32; 128]
+    requires { ⌜ (n ≤ 127) × (x ≤ n) × (y ≤ n) × (length marks ≡ 128) ⌝ }
+    requires { ⌜ Sound (networkOf n (now principal) (now secondary) (now stamp)) ⌝ }
+    ensures { λ r. ⌜ MarkedWay (networkOf n (now (principal .entry)) (now (secondary .entry)) (now (stamp .entry))) marks r x y ⌝ }
+{
+    let mut m = marks;
+    let mut a = x;
+    let mut b = y;
+    while a != b {
+        let p = height_at(secondary, stamp, a);
+        let q = height_at(secondary, stamp, b);
+        if p < q {
+            m[b] = 1;
+            b = wide(principal[b]);
+        } else {
+            m[a] = 1;
+            a = wide(principal[a]);
+        }
+    }
+    m
+}
+
+// Marks the way between the two parents' ends of node v + 1, if it is a reticulation.
+fn mark_next(
+    n: usize,
+    principal: &[u32; 128],
+    secondary: &[u32; 128],
+    stamp: &[u32; 128],
+    marks: [u32; 128],
+    v: usize,
+) -> [u32; 128]
+    requires { ⌜ (n ≤ 127) × (v < n) ⌝ }
+    requires { ⌜ Sound (networkOf n (now principal) (now secondary) (now stamp)) ⌝ }
+    requires { ⌜ MarkedWays (networkOf n (now principal) (now secondary) (now stamp)) marks v ⌝ }
+    ensures { λ r. ⌜ MarkedWays (networkOf n (now (principal .entry)) (now (secondary .entry)) (now (stamp .entry))) r (v + 1) ⌝ }
+{
+    let w = v + 1;
+    let s = wide(secondary[w]);
+    if s == 0 {
+        return marks;
+    }
+    mark_way(n, principal, secondary, stamp, marks, w, s)
+}
+
+// The nodes that are no tops are marked.
+fn non_tops(
+    n: usize,
+    principal: &[u32; 128],
+    secondary: &[u32; 128],
+    stamp: &[u32; 128],
+) -> [u32; 128]
+    requires { ⌜ n ≤ 127 ⌝ }
+    requires { ⌜ Sound (networkOf n (now principal) (now secondary) (now stamp)) ⌝ }
+    ensures { λ r. ⌜ NonTops (networkOf n (now (principal .entry)) (now (secondary .entry)) (now (stamp .entry))) r ⌝ }
+{
+    let mut m = [0u32; 128];
+    let mut v: usize = 0;
+    while v < n {
+        let next = mark_next(n, principal, secondary, stamp, m, v);
+        m = next;
+        v += 1;
+    }
+    m
+}
+
+// The top of v's component: the first node without a mark, going up principal arcs.
+fn top_of(
+    n: usize,
+    principal: &[u32; 128],
+    secondary: &[u32; 128],
+    stamp: &[u32; 128],
+    marks: &[u32; 128],
+    v: usize,
+) -> u32
+    requires { ⌜ (n ≤ 127) × (1 ≤ v) × (v ≤ n) ⌝ }
+    requires { ⌜ Sound (networkOf n (now principal) (now secondary) (now stamp)) ⌝ }
+    requires { ⌜ NonTops (networkOf n (now principal) (now secondary) (now stamp)) (now marks) ⌝ }
+    ensures { λ r. ⌜ r ≡ component (networkOf n (now (principal .entry)) (now (secondary .entry)) (now (stamp .entry))) v ⌝ }
+{
+    let mut a = v;
+    while marks[a] != 0 {
+        a = wide(principal[a]);
+    }
+    a as u32
+}
+
+// The top of each node's component.
+pub fn tops(
+    n: usize,
+    principal: &[u32; 128],
+    secondary: &[u32; 128],
+    stamp: &[u32; 128],
+) -> [u32; 128]
+    requires { ⌜ n ≤ 127 ⌝ }
+    requires { ⌜ Sound (networkOf n (now principal) (now secondary) (now stamp)) ⌝ }
+    ensures { λ r. ⌜ r ≡ table n (component (networkOf n (now (principal .entry)) (now (secondary .entry)) (now (stamp .entry)))) ⌝ }
+{
+    let marks = non_tops(n, principal, secondary, stamp);
+    let mut out = [0u32; 128];
+    let mut v: usize = 0;
+    while v < n {
+        let w = v + 1;
+        out[w] = top_of(n, principal, secondary, stamp, &marks, w);
+        v = w;
+    }
+    out
+}
+
+fn member_with(s: u32, top: usize, c: usize) -> bool
+    ensures { λ r. ⌜ r ≡ memberWith s top c ⌝ }
+{
+    if s == 0 {
+        return false;
+    }
+    top == c
+}
+
+fn member_at(secondary: &[u32; 128], tops: &[u32; 128], c: usize, r: usize) -> bool
+    requires { ⌜ r ≤ 127 ⌝ }
+    ensures { λ b. ⌜ b ≡ memberAt (now (secondary .entry)) (now (tops .entry)) c r ⌝ }
+{
+    member_with(secondary[r], wide(tops[r]), c)
+}
+
+fn one_if_true(b: bool) -> u32
+    ensures { λ r. ⌜ (r ≡ tally b) × (r ≤ 1) ⌝ }
+{
+    if b {
+        return 1;
+    }
+    0
+}
+
+fn members_at(n: usize, secondary: &[u32; 128], tops: &[u32; 128], c: usize) -> u32
+    requires { ⌜ n ≤ 127 ⌝ }
+    ensures { λ r. ⌜ r ≡ membersFrom n (now (secondary .entry)) (now (tops .entry)) c ⌝ }
+{
+    let mut k: u32 = 0;
+    let mut v: usize = 0;
+    while v < n {
+        let w = v + 1;
+        k += one_if_true(member_at(secondary, tops, c, w));
+        v = w;
+    }
+    k
+}
+
+// How many reticulations each component has, at its top.
+pub fn members(n: usize, secondary: &[u32; 128], tops: &[u32; 128]) -> [u32; 128]
+    requires { ⌜ n ≤ 127 ⌝ }
+    ensures { λ r. ⌜ r ≡ table n (membersFrom n (now (secondary .entry)) (now (tops .entry))) ⌝ }
+{
+    let mut out = [0u32; 128];
+    let mut v: usize = 0;
+    while v < n {
+        let w = v + 1;
+        out[w] = members_at(n, secondary, tops, w);
+        v = w;
+    }
+    out
+}
+
+fn earlier_at(secondary: &[u32; 128], tops: &[u32; 128], c: usize, r: usize, q: usize) -> bool
+    requires { ⌜ q ≤ 127 ⌝ }
+    ensures { λ b. ⌜ b ≡ earlierAt (now (secondary .entry)) (now (tops .entry)) c r q ⌝ }
+{
+    if !member_at(secondary, tops, c, q) {
+        return false;
+    }
+    q < r
+}
+
+fn index_at(n: usize, secondary: &[u32; 128], tops: &[u32; 128], r: usize) -> u32
+    requires { ⌜ (n ≤ 127) × (r ≤ 127) ⌝ }
+    ensures { λ k. ⌜ k ≡ indexFrom n (now (secondary .entry)) (now (tops .entry)) r ⌝ }
+{
+    let c = wide(tops[r]);
+    let mut k: u32 = 0;
+    let mut v: usize = 0;
+    while v < n {
+        let w = v + 1;
+        k += one_if_true(earlier_at(secondary, tops, c, r, w));
+        v = w;
+    }
+    k
+}
+
+// How many reticulations of its component have a lower number than each node.
+pub fn indices(n: usize, secondary: &[u32; 128], tops: &[u32; 128]) -> [u32; 128]
+    requires { ⌜ n ≤ 127 ⌝ }
+    ensures { λ r. ⌜ r ≡ table n (indexFrom n (now (secondary .entry)) (now (tops .entry))) ⌝ }
+{
+    let mut out = [0u32; 128];
+    let mut v: usize = 0;
+    while v < n {
+        let w = v + 1;
+        out[w] = index_at(n, secondary, tops, w);
+        v = w;
+    }
+    out
+}
+
+// The arcs out of each node, of the kind of arc that the table of parents holds.
+pub fn arcs_out(n: usize, parent: &[u32; 128]) -> [u32; 128]
+    requires { ⌜ n ≤ 127 ⌝ }
+    ensures { λ r. ⌜ r ≡ table n (children n (at (now (parent .entry)))) ⌝ }
+{
+    let mut out = [0u32; 128];
+    let mut v: usize = 0;
+    while v < n {
+        let w = v + 1;
+        out[w] = count_of(n, parent, w) as u32;
+        v = w;
+    }
+    out
+}
+
+fn height_in(n: usize, secondary: &[u32; 128], stamp: &[u32; 128], v: usize) -> u32
+    requires { ⌜ v ≤ 127 ⌝ }
+    requires { ⌜ Dated n (now stamp) ⌝ }
+    ensures { λ r. ⌜ r ≡ heightIn n (now (secondary .entry)) (now (stamp .entry)) v ⌝ }
+{
+    if n < v {
+        return 1;
+    }
+    height_at(secondary, stamp, v) as u32
+}
+
+// The heights of the numbers 1 to 127.
+pub fn heights(n: usize, secondary: &[u32; 128], stamp: &[u32; 128]) -> [u32; 128]
+    requires { ⌜ Dated n (now stamp) ⌝ }
+    ensures { λ r. ⌜ r ≡ table 127 (heightIn n (now (secondary .entry)) (now (stamp .entry))) ⌝ }
+{
+    let mut out = [0u32; 128];
+    let mut v: usize = 0;
+    while v < 127 {
+        let w = v + 1;
+        out[w] = height_in(n, secondary, stamp, w);
+        v = w;
+    }
+    out
+}
+
+fn crowded_from(members: &[u32; 128], c: usize) -> bool
+    requires { ⌜ c ≤ 127 ⌝ }
+    ensures { λ r. ⌜ r ≡ crowdedFrom (now (members .entry)) c ⌝ }
+{
+    8 < members[c]
+}
+
+fn some_crowded(n: usize, members: &[u32; 128]) -> bool
+    requires { ⌜ n ≤ 127 ⌝ }
+    ensures { λ r. ⌜ r ≡ some n (crowdedFrom (now (members .entry))) ⌝ }
+{
+    let mut v: usize = 0;
+    while v < n {
+        if crowded_from(members, v + 1) {
+            return true;
+        }
+        v += 1;
+    }
+    false
+}
+
+// 11. The climbs of `tops` end: 6, 7 and 8 have passed.
+fn eleven(n: usize, principal: &[u32; 128], secondary: &[u32; 128], stamp: &[u32; 128]) -> bool
+    requires { ⌜ n ≤ 127 ⌝ }
+    requires { ⌜ Sound (networkOf n (now principal) (now secondary) (now stamp)) ⌝ }
+    ensures { λ r. ⌜ r ≡ refusal11 (networkOf n (now (principal .entry)) (now (secondary .entry)) (now (stamp .entry))) ⌝ }
+{
+    let top = tops(n, principal, secondary, stamp);
+    let held = members(n, secondary, &top);
+    some_crowded(n, &held)
+}
+
+// The first refusal of 6 to 11 that applies, or 0.
+pub fn verdict(
+    n: usize,
+    principal: &[u32; 128],
+    secondary: &[u32; 128],
+    stamp: &[u32; 128],
+    species: &[u32; 128],
+) -> u32
+    requires { ⌜ n ≤ 127 ⌝ }
+    ensures { λ r. ⌜ r ≡ networkVerdict n (now (principal .entry)) (now (secondary .entry)) (now (stamp .entry)) (now (species .entry)) ⌝ }
+{
+    if six(n, principal, secondary) {
+        return 6;
+    }
+    if seven(n, principal, secondary, stamp) {
+        return 7;
+    }
+    if eight(n, principal, secondary) {
+        return 8;
+    }
+    if nine(n, principal, secondary, species) {
+        return 9;
+    }
+    if ten(n, principal, secondary) {
+        return 10;
+    }
+    if eleven(n, principal, secondary, stamp) {
+        return 11;
+    }
+    0
 }
