@@ -7,3 +7,4 @@ pub mod Acceptance
 pub mod Ways
 pub mod Reckoning
 pub mod Verdicts
+pub mod Bounds

@@ -2,3 +2,4 @@ pub mod Refusals
 pub mod ShortForms
 pub mod Verdict
 pub mod Tables
+pub mod Trials
