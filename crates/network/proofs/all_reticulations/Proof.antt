@@ -1,16 +1,14 @@
-use Prim.Native.Nat.{ℕ, _+_, _-_, _≤_}
+-- Each node tested so far is a reticulation if it is a child of v; a node that is not settles the answer.
+-- Assumes nothing.
+use Prim.Native.Nat.{_-_, _≤_}
 use mathlib.Core.Path.{_≡_}
-use mathlib.Core.Bool.{true, false}
+use mathlib.Core.Bool.{true}
 use borrow.Author.Needs.{needs}
-use Rattle.finite.specs.Range.{some, every}
+use Rattle.finite.specs.Range.{every}
 use Rattle.finite.proofs.Every.{every-loop}
 use Rattle.network.specs.Refusals.{reticulationIfChild}
-use Rattle.network.proofs.Loops.{some-loop}
 use Rattle.network.proofs.all_reticulations.Statement.{statement}
 use Rattle.network.proofs.all_reticulations.Tie as tie
-use Rattle.network.proofs.all_reticulations.Reads as reads
-use Rattle.network.proofs.all_reticulations.Lts as lts
-use Rattle.network.proofs.reticulation_if_child.Reads as reticulation-if-child-reads
 
 abbrev Inv-loop : tie.InvT-loop
 Inv-loop n principal secondary v w₀ w = (w ≤ n) × (every w (reticulationIfChild principal secondary v) ≡ true)
@@ -18,35 +16,27 @@ Inv-loop n principal secondary v w₀ w = (w ≤ n) × (every w (reticulationIfC
 abbrev μ-loop : tie.MeasureT-loop
 μ-loop n principal secondary v w₀ w = n - w
 
--- src/lib.rt:308:5
 loop-holds : tie.Need-loop-holds Inv-loop μ-loop
 loop-holds c = search (needs, every-loop)
 
--- src/lib.rt:309:60
 add-reticulation-if-child : tie.Need-add-reticulation-if-child Inv-loop μ-loop
 add-reticulation-if-child c = search needs
 
--- src/lib.rt:309:13
 reticulation-if-child-requires : tie.Need-reticulation-if-child-requires Inv-loop μ-loop
 reticulation-if-child-requires c κs = search needs
 
--- src/lib.rt:310:13
 returns : tie.Need-returns Inv-loop μ-loop
 returns c = search (needs, every-loop)
 
--- src/lib.rt:312:9
 add-w : tie.Need-add-w Inv-loop μ-loop
 add-w c = search needs
 
--- src/lib.rt:308:5
 loop-less : tie.Need-loop-less Inv-loop μ-loop
 loop-less c = search needs
 
--- src/lib.rt:308:5
 loop-again : tie.Need-loop-again Inv-loop μ-loop
 loop-again c = search (needs, every-loop)
 
--- src/lib.rt:303:1
 returns-2 : tie.Need-returns-2 Inv-loop μ-loop
 returns-2 c = search (needs, every-loop)
 

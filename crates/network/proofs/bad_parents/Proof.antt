@@ -1,3 +1,5 @@
+-- Each return stands behind the tests that the definition asks in the same order.
+-- Assumes nothing.
 use mathlib.Core.Path.{sym}
 use borrow.Author.Needs.{needs}
 use Rattle.finite.specs.Tests.{same}
@@ -6,35 +8,27 @@ use Rattle.network.specs.Refusals.{badParents}
 use Rattle.network.proofs.Loops.{rest-laws}
 use Rattle.network.proofs.bad_parents.Statement.{statement}
 use Rattle.network.proofs.bad_parents.Tie as tie
-use Rattle.network.proofs.bad_parents.Reads as reads
-use Rattle.network.proofs.bad_parents.Lts as lts
 
--- src/lib.rt:48:9
 returns : tie.Need-returns
 unfolding badParents
 returns c = sym (search (needs, test-laws) depth 9)
 
--- src/lib.rt:51:9
 returns-2 : tie.Need-returns-2
 unfolding badParents
 returns-2 c = sym (search (needs, test-laws) depth 9)
 
--- src/lib.rt:54:9
 returns-3 : tie.Need-returns-3
 unfolding badParents
 returns-3 c = sym (search (needs, test-laws) depth 9)
 
--- src/lib.rt:57:9
 returns-4 : tie.Need-returns-4
 unfolding badParents
 returns-4 c = sym (search (needs, test-laws) depth 9)
 
--- src/lib.rt:60:9
 returns-5 : tie.Need-returns-5
 unfolding badParents same
 returns-5 c = search (needs, rest-laws) depth 9
 
--- src/lib.rt:44:1
 returns-6 : tie.Need-returns-6
 unfolding badParents
 returns-6 c = sym (search (needs, test-laws) depth 9)

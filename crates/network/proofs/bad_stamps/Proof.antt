@@ -1,26 +1,23 @@
+-- The two clauses are asked one after the other; where the node has no principal parent or a later one, the second decides.
+-- Assumes nothing.
 use mathlib.Core.Path.{sym}
 use mathlib.Core.Logic.{⊎-elim}
 use borrow.Author.Needs.{needs}
-use Rattle.finite.specs.Tests.{same, under}
+use Rattle.finite.specs.Tests.{same}
 use Rattle.finite.proofs.Tests.{test-laws}
 use Rattle.network.specs.Refusals.{badStamps}
 use Rattle.network.proofs.Loops.{rest-laws}
 use Rattle.network.proofs.bad_stamps.Statement.{statement}
 use Rattle.network.proofs.bad_stamps.Tie as tie
-use Rattle.network.proofs.bad_stamps.Reads as reads
-use Rattle.network.proofs.bad_stamps.Lts as lts
 
--- src/lib.rt:103:13
 returns : tie.Need-returns
 unfolding badStamps
 returns c = sym (search (needs, test-laws) depth 9)
 
--- src/lib.rt:107:9
 returns-2 : tie.Need-returns-2
 unfolding badStamps
 returns-2 c = ⊎-elim (λ w. sym (search (needs, test-laws) depth 9)) (λ w. sym (search (needs, test-laws) depth 9)) (c .before .if1 .came)
 
--- src/lib.rt:98:1
 returns-3 : tie.Need-returns-3
 unfolding badStamps same
 returns-3 c = ⊎-elim (λ w. search (needs, rest-laws) depth 9) (λ w. search (needs, rest-laws) depth 9) (c .before .if1 .came)

@@ -1,3 +1,5 @@
+-- Either parent may be v.
+-- Assumes nothing.
 use mathlib.Core.Path.{sym}
 use borrow.Author.Needs.{needs}
 use Rattle.finite.specs.Tests.{same}
@@ -6,15 +8,11 @@ use Rattle.network.specs.Refusals.{childWith}
 use Rattle.network.proofs.Loops.{rest-laws}
 use Rattle.network.proofs.child_with.Statement.{statement}
 use Rattle.network.proofs.child_with.Tie as tie
-use Rattle.network.proofs.child_with.Reads as reads
-use Rattle.network.proofs.child_with.Lts as lts
 
--- src/lib.rt:267:9
 returns : tie.Need-returns
 unfolding childWith
 returns c = sym (search (needs, test-laws) depth 9)
 
--- src/lib.rt:263:1
 returns-2 : tie.Need-returns-2
 unfolding childWith same
 returns-2 c = search (needs, rest-laws) depth 9

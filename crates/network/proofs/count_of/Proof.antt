@@ -1,5 +1,7 @@
+-- The count of the entries passed, one entry more at each turn.
+-- Assumes nothing.
 use Rattle.network.proofs.Loops.{hit-turn}
-use Prim.Native.Nat.{ℕ, _+_, _-_, _≤_}
+use Prim.Native.Nat.{_-_, _≤_}
 use mathlib.Core.Path.{_≡_}
 use borrow.Author.Needs.{needs}
 use Rattle.finite.specs.Tests.{same}
@@ -8,10 +10,6 @@ use Rattle.finite.specs.Range.{count, children}
 use Rattle.finite.proofs.Count.{count-loop}
 use Rattle.network.proofs.count_of.Statement.{statement}
 use Rattle.network.proofs.count_of.Tie as tie
-use Rattle.network.proofs.count_of.Reads as reads
-use Rattle.network.proofs.count_of.Lts as lts
-use Rattle.network.proofs.one_if.Reads as one-if-reads
-use Rattle.network.proofs.wide.Reads as wide-reads
 
 abbrev Inv-loop : tie.InvT-loop
 Inv-loop n xs x r₀ v₀ r v = (v ≤ n) × (r ≤ v) × (r ≡ count v (λ w. same (at xs w) x))
@@ -19,43 +17,33 @@ Inv-loop n xs x r₀ v₀ r v = (v ≤ n) × (r ≤ v) × (r ≡ count v (λ w. 
 abbrev μ-loop : tie.MeasureT-loop
 μ-loop n xs x r₀ v₀ r v = n - v
 
--- src/lib.rt:35:5
 loop-holds : tie.Need-loop-holds Inv-loop μ-loop
 loop-holds c = search (needs, count-loop)
 
--- src/lib.rt:36:17
 add-w : tie.Need-add-w Inv-loop μ-loop
 add-w c = search needs
 
--- src/lib.rt:37:26
 mul-wide : tie.Need-mul-wide Inv-loop μ-loop
 mul-wide c = search needs
 
--- src/lib.rt:37:26
 element-copy-out-wide : tie.Need-element-copy-out-wide Inv-loop μ-loop
 element-copy-out-wide c = search needs
 
--- src/lib.rt:37:21
 wide-requires : tie.Need-wide-requires Inv-loop μ-loop
 wide-requires c κs = search needs
 
--- src/lib.rt:37:14
 one-if-requires : tie.Need-one-if-requires Inv-loop μ-loop
 one-if-requires c κs = search needs
 
--- src/lib.rt:37:9
 add-r : tie.Need-add-r Inv-loop μ-loop
 add-r c = search needs
 
--- src/lib.rt:35:5
 loop-less : tie.Need-loop-less Inv-loop μ-loop
 loop-less c = search needs
 
--- src/lib.rt:35:5
 loop-again : tie.Need-loop-again Inv-loop μ-loop
 loop-again c = (search needs, search needs, hit-turn (c .before .before .before .before .before .args .xs .now) _ _ _ _ _ (c .before .before .before .before .loop .inv .2) (c .before .wide .ensures) (c .one-if .ensures .0))
 
--- src/lib.rt:29:1
 returns : tie.Need-returns Inv-loop μ-loop
 unfolding children
 returns c = (search (needs, count-loop), search needs)

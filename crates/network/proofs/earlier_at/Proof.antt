@@ -1,3 +1,5 @@
+-- A member of the component decides by its number.
+-- Assumes nothing.
 use mathlib.Core.Path.{sym}
 use Rattle.finite.specs.Tests.{same, under}
 use Rattle.finite.proofs.Tests.{test-laws, told-laws}
@@ -6,20 +8,14 @@ use Rattle.network.proofs.Loops.{rest-laws}
 use borrow.Author.Needs.{needs}
 use Rattle.network.proofs.earlier_at.Statement.{statement}
 use Rattle.network.proofs.earlier_at.Tie as tie
-use Rattle.network.proofs.earlier_at.Reads as reads
-use Rattle.network.proofs.earlier_at.Lts as lts
-use Rattle.network.proofs.member_at.Reads as member-at-reads
 
--- src/lib.rt:524:9
 member-at-requires : tie.Need-member-at-requires
 member-at-requires c κs = search needs
 
--- src/lib.rt:525:9
 returns : tie.Need-returns
 unfolding earlierAt
 returns c = sym (search (needs, test-laws, told-laws) depth 9)
 
--- src/lib.rt:520:1
 returns-2 : tie.Need-returns-2
 unfolding earlierAt same under
 returns-2 c = search (needs, rest-laws, told-laws) depth 9

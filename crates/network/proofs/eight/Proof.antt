@@ -1,16 +1,14 @@
-use Prim.Native.Nat.{ℕ, _+_, _-_, _≤_}
+-- No node tested so far is without a shape; one that is settles the answer.
+-- Assumes nothing.
+use Prim.Native.Nat.{_-_, _≤_}
 use mathlib.Core.Path.{_≡_}
-use mathlib.Core.Bool.{true, false}
+use mathlib.Core.Bool.{false}
 use borrow.Author.Needs.{needs}
-use Rattle.finite.specs.Range.{some, every}
-use Rattle.finite.proofs.Every.{every-loop}
+use Rattle.finite.specs.Range.{some}
 use Rattle.network.specs.Refusals.{refusal8, shapelessAt}
 use Rattle.network.proofs.Loops.{some-loop}
 use Rattle.network.proofs.eight.Statement.{statement}
 use Rattle.network.proofs.eight.Tie as tie
-use Rattle.network.proofs.eight.Reads as reads
-use Rattle.network.proofs.eight.Lts as lts
-use Rattle.network.proofs.shapeless_at.Reads as shapeless-at-reads
 
 abbrev Inv-loop : tie.InvT-loop
 Inv-loop n principal secondary v₀ v = (v ≤ n) × (some v (shapelessAt n principal secondary) ≡ false)
@@ -18,36 +16,28 @@ Inv-loop n principal secondary v₀ v = (v ≤ n) × (some v (shapelessAt n prin
 abbrev μ-loop : tie.MeasureT-loop
 μ-loop n principal secondary v₀ v = n - v
 
--- src/lib.rt:207:5
 loop-holds : tie.Need-loop-holds Inv-loop μ-loop
 loop-holds c = search (needs, some-loop)
 
--- src/lib.rt:208:50
 add-shapeless-at : tie.Need-add-shapeless-at Inv-loop μ-loop
 add-shapeless-at c = search needs
 
--- src/lib.rt:208:12
 shapeless-at-requires : tie.Need-shapeless-at-requires Inv-loop μ-loop
 shapeless-at-requires c κs = search needs
 
--- src/lib.rt:209:13
 returns : tie.Need-returns Inv-loop μ-loop
 unfolding refusal8
 returns c = search (needs, some-loop)
 
--- src/lib.rt:211:9
 add-v : tie.Need-add-v Inv-loop μ-loop
 add-v c = search needs
 
--- src/lib.rt:207:5
 loop-less : tie.Need-loop-less Inv-loop μ-loop
 loop-less c = search needs
 
--- src/lib.rt:207:5
 loop-again : tie.Need-loop-again Inv-loop μ-loop
 loop-again c = search (needs, some-loop)
 
--- src/lib.rt:202:1
 returns-2 : tie.Need-returns-2 Inv-loop μ-loop
 unfolding refusal8
 returns-2 c = search (needs, some-loop)

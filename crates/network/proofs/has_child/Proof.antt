@@ -1,16 +1,14 @@
-use Prim.Native.Nat.{ℕ, _+_, _-_, _≤_}
+-- No node tested so far is a child of v; one that is settles the answer.
+-- Assumes nothing.
+use Prim.Native.Nat.{_-_, _≤_}
 use mathlib.Core.Path.{_≡_}
-use mathlib.Core.Bool.{true, false}
+use mathlib.Core.Bool.{false}
 use borrow.Author.Needs.{needs}
-use Rattle.finite.specs.Range.{some, every}
-use Rattle.finite.proofs.Every.{every-loop}
+use Rattle.finite.specs.Range.{some}
 use Rattle.network.specs.Refusals.{childAt}
 use Rattle.network.proofs.Loops.{some-loop}
 use Rattle.network.proofs.has_child.Statement.{statement}
 use Rattle.network.proofs.has_child.Tie as tie
-use Rattle.network.proofs.has_child.Reads as reads
-use Rattle.network.proofs.has_child.Lts as lts
-use Rattle.network.proofs.child_at.Reads as child-at-reads
 
 abbrev Inv-loop : tie.InvT-loop
 Inv-loop n principal secondary v w₀ w = (w ≤ n) × (some w (childAt principal secondary v) ≡ false)
@@ -18,35 +16,27 @@ Inv-loop n principal secondary v w₀ w = (w ≤ n) × (some w (childAt principa
 abbrev μ-loop : tie.MeasureT-loop
 μ-loop n principal secondary v w₀ w = n - w
 
--- src/lib.rt:284:5
 loop-holds : tie.Need-loop-holds Inv-loop μ-loop
 loop-holds c = search (needs, some-loop)
 
--- src/lib.rt:285:46
 add-child-at : tie.Need-add-child-at Inv-loop μ-loop
 add-child-at c = search needs
 
--- src/lib.rt:285:12
 child-at-requires : tie.Need-child-at-requires Inv-loop μ-loop
 child-at-requires c κs = search needs
 
--- src/lib.rt:286:13
 returns : tie.Need-returns Inv-loop μ-loop
 returns c = search (needs, some-loop)
 
--- src/lib.rt:288:9
 add-w : tie.Need-add-w Inv-loop μ-loop
 add-w c = search needs
 
--- src/lib.rt:284:5
 loop-less : tie.Need-loop-less Inv-loop μ-loop
 loop-less c = search needs
 
--- src/lib.rt:284:5
 loop-again : tie.Need-loop-again Inv-loop μ-loop
 loop-again c = search (needs, some-loop)
 
--- src/lib.rt:279:1
 returns-2 : tie.Need-returns-2 Inv-loop μ-loop
 returns-2 c = search (needs, some-loop)
 

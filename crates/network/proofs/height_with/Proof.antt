@@ -1,38 +1,30 @@
-use mathlib.Core.Path.{sym}
+-- Twice the stamp and one more, and one more again for a reticulation.
+-- Assumes nothing.
 use native.Mathlib.Omega.{arith}
-use Rattle.finite.specs.Tests.{tally}
 use Rattle.finite.proofs.Tests.{is-same, not-same}
 use Rattle.topology.specs.Tables.{rankFrom}
 use Rattle.network.specs.Tables.{heightWith}
 use borrow.Author.Needs.{needs}
 use Rattle.network.proofs.height_with.Statement.{statement}
 use Rattle.network.proofs.height_with.Tie as tie
-use Rattle.network.proofs.height_with.Reads as reads
-use Rattle.network.proofs.height_with.Lts as lts
 
--- src/lib.rt:363:9
 returns : tie.Need-returns
 unfolding heightWith
 returns c = rw (is-same (c .if1 .taken))
 
--- src/lib.rt:365:15
 mul-low : tie.Need-mul-low
 mul-low c = search needs
 
--- src/lib.rt:365:15
 add-low : tie.Need-add-low
 add-low c = search needs
 
--- src/lib.rt:367:9
 returns-2 : tie.Need-returns-2
 unfolding heightWith rankFrom
 returns-2 c = rw (not-same (c .before .if1 .left), is-same (c .if2 .taken)) (omega arith)
 
--- src/lib.rt:369:5
 add-result : tie.Need-add-result
 add-result c = search needs
 
--- src/lib.rt:359:1
 returns-3 : tie.Need-returns-3
 unfolding heightWith rankFrom
 returns-3 c = rw (not-same (c .before .if1 .left), not-same (c .if2 .left)) (omega arith)

@@ -1,19 +1,15 @@
-use Prim.Native.Nat.{ℕ, _+_, _-_, _≤_}
+-- The count of the members before r among the nodes passed, the component being that of r.
+-- Assumes nothing.
+use Prim.Native.Nat.{_-_, _≤_}
 use mathlib.Core.Path.{_≡_}
 use borrow.Author.Needs.{needs}
 use Rattle.finite.specs.Range.{count}
-use Rattle.finite.specs.Tables.{at}
 use Rattle.finite.proofs.Count.{count-start}
 use Rattle.network.specs.Tables.{earlierAt}
 use Rattle.network.proofs.Loops.{tally-turn}
 use Rattle.network.proofs.Reckoning.{index-done}
 use Rattle.network.proofs.index_at.Statement.{statement}
 use Rattle.network.proofs.index_at.Tie as tie
-use Rattle.network.proofs.index_at.Reads as reads
-use Rattle.network.proofs.index_at.Lts as lts
-use Rattle.network.proofs.earlier_at.Reads as earlier-at-reads
-use Rattle.network.proofs.one_if_true.Reads as one-if-true-reads
-use Rattle.network.proofs.wide.Reads as wide-reads
 
 abbrev Inv-loop : tie.InvT-loop
 Inv-loop n secondary tops r c k₀ v₀ k v = (v ≤ n) × (k ≤ v) × (k ≡ count v (earlierAt secondary tops c r))
@@ -21,47 +17,36 @@ Inv-loop n secondary tops r c k₀ v₀ k v = (v ≤ n) × (k ≤ v) × (k ≡ c
 abbrev μ-loop : tie.MeasureT-loop
 μ-loop n secondary tops r c k₀ v₀ k v = n - v
 
--- src/lib.rt:534:18
 mul-wide : tie.Need-mul-wide Inv-loop μ-loop
 mul-wide c = search needs
 
--- src/lib.rt:534:18
 element-copy-out-wide : tie.Need-element-copy-out-wide Inv-loop μ-loop
 element-copy-out-wide c = search needs
 
--- src/lib.rt:534:9
 wide-requires : tie.Need-wide-requires Inv-loop μ-loop
 wide-requires c κs = search needs
 
--- src/lib.rt:537:5
 loop-holds : tie.Need-loop-holds Inv-loop μ-loop
 loop-holds c = search (needs, count-start)
 
--- src/lib.rt:538:17
 add-w : tie.Need-add-w Inv-loop μ-loop
 add-w c = search needs
 
--- src/lib.rt:539:26
 earlier-at-requires : tie.Need-earlier-at-requires Inv-loop μ-loop
 earlier-at-requires c κs = search needs
 
--- src/lib.rt:539:14
 one-if-true-requires : tie.Need-one-if-true-requires Inv-loop μ-loop
 one-if-true-requires c κs = search needs
 
--- src/lib.rt:539:9
 add-k : tie.Need-add-k Inv-loop μ-loop
 add-k c = search needs
 
--- src/lib.rt:537:5
 loop-less : tie.Need-loop-less Inv-loop μ-loop
 loop-less c = search needs
 
--- src/lib.rt:537:5
 loop-again : tie.Need-loop-again Inv-loop μ-loop
 loop-again c = search (needs, tally-turn)
 
--- src/lib.rt:530:1
 returns : tie.Need-returns Inv-loop μ-loop
 returns c = search (needs, index-done)
 

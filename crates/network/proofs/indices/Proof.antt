@@ -1,4 +1,6 @@
-use Prim.Native.Nat.{ℕ, _+_, _-_, _≤_}
+-- The table is filled from the front, each entry with the index of its number.
+-- Assumes nothing.
+use Prim.Native.Nat.{_-_, _≤_}
 use mathlib.Core.Path.{_≡_}
 use borrow.Author.Needs.{needs}
 use Rattle.finite.specs.Tables.{filled}
@@ -6,9 +8,6 @@ use Rattle.finite.proofs.Tables.{fill-loop}
 use Rattle.network.specs.Tables.{zeros, table, indexFrom}
 use Rattle.network.proofs.indices.Statement.{statement}
 use Rattle.network.proofs.indices.Tie as tie
-use Rattle.network.proofs.indices.Reads as reads
-use Rattle.network.proofs.indices.Lts as lts
-use Rattle.network.proofs.index_at.Reads as index-at-reads
 
 abbrev Inv-loop : tie.InvT-loop
 Inv-loop n secondary tops out₀ v₀ out v = (v ≤ n) × (out ≡ filled v zeros (indexFrom n secondary tops))
@@ -16,36 +15,28 @@ Inv-loop n secondary tops out₀ v₀ out v = (v ≤ n) × (out ≡ filled v zer
 abbrev μ-loop : tie.MeasureT-loop
 μ-loop n secondary tops out₀ v₀ out v = n - v
 
--- src/lib.rt:552:5
 loop-holds : tie.Need-loop-holds Inv-loop μ-loop
 unfolding zeros
 loop-holds c = search (needs, fill-loop)
 
--- src/lib.rt:553:17
 add-w : tie.Need-add-w Inv-loop μ-loop
 add-w c = search needs
 
--- src/lib.rt:554:18
 index-at-requires : tie.Need-index-at-requires Inv-loop μ-loop
 index-at-requires c κs = search needs
 
--- src/lib.rt:554:9
 mul-out : tie.Need-mul-out Inv-loop μ-loop
 mul-out c = search needs
 
--- src/lib.rt:554:9
 array-write-out : tie.Need-array-write-out Inv-loop μ-loop
 array-write-out c = search needs
 
--- src/lib.rt:552:5
 loop-less : tie.Need-loop-less Inv-loop μ-loop
 loop-less c = search needs
 
--- src/lib.rt:552:5
 loop-again : tie.Need-loop-again Inv-loop μ-loop
 loop-again c = search (needs, fill-loop)
 
--- src/lib.rt:546:1
 returns : tie.Need-returns Inv-loop μ-loop
 unfolding table
 returns c = search (needs, fill-loop)

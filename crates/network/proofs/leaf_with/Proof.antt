@@ -1,3 +1,5 @@
+-- Each return stands behind the tests that the definition asks in the same order.
+-- Assumes nothing.
 use mathlib.Core.Path.{sym}
 use borrow.Author.Needs.{needs}
 use Rattle.finite.specs.Tests.{same, under}
@@ -6,20 +8,15 @@ use Rattle.network.specs.Refusals.{leafWith}
 use Rattle.network.proofs.Loops.{rest-laws}
 use Rattle.network.proofs.leaf_with.Statement.{statement}
 use Rattle.network.proofs.leaf_with.Tie as tie
-use Rattle.network.proofs.leaf_with.Reads as reads
-use Rattle.network.proofs.leaf_with.Lts as lts
 
--- src/lib.rt:170:9
 returns : tie.Need-returns
 unfolding leafWith
 returns c = sym (search (needs, test-laws, told-laws) depth 9)
 
--- src/lib.rt:173:9
 returns-2 : tie.Need-returns-2
 unfolding leafWith
 returns-2 c = sym (search (needs, test-laws, told-laws) depth 9)
 
--- src/lib.rt:166:1
 returns-3 : tie.Need-returns-3
 unfolding leafWith same under
 returns-3 c = search (needs, rest-laws, told-laws) depth 9

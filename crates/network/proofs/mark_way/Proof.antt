@@ -1,15 +1,12 @@
-use Prim.Native.Nat.{ℕ, _+_, _-_, _≤_}
-use mathlib.Core.Path.{_≡_}
+-- What is marked, with the way still to climb, is what was to be marked (`OnWay`); the climber of larger height goes on, so the heights fall.
+-- Assumes nothing.
+use Prim.Native.Nat.{_+_, _-_, _≤_}
 use borrow.Author.Needs.{needs}
 use Rattle.topology.specs.Switchings.{height}
 use Rattle.topology.specs.Tables.{networkOf}
 use Rattle.network.proofs.Ways.{OnWay, way-start, way-end, turn-left, turn-right, in-left, in-right, less-left, less-right}
 use Rattle.network.proofs.mark_way.Statement.{statement}
 use Rattle.network.proofs.mark_way.Tie as tie
-use Rattle.network.proofs.mark_way.Reads as reads
-use Rattle.network.proofs.mark_way.Lts as lts
-use Rattle.network.proofs.height_at.Reads as height-at-reads
-use Rattle.network.proofs.wide.Reads as wide-reads
 
 abbrev Inv-loop : tie.InvT-loop
 Inv-loop n principal secondary stamp x y m₀ a₀ b₀ m a b = (a ≤ n) × (b ≤ n) × OnWay (networkOf n principal secondary stamp) m₀ x y m a b
@@ -17,39 +14,30 @@ Inv-loop n principal secondary stamp x y m₀ a₀ b₀ m a b = (a ≤ n) × (b 
 abbrev μ-loop : tie.MeasureT-loop
 μ-loop n principal secondary stamp x y m₀ a₀ b₀ m a b = height (networkOf n principal secondary stamp) a + height (networkOf n principal secondary stamp) b
 
--- src/lib.rt:389:5
 loop-holds : tie.Need-loop-holds Inv-loop μ-loop
 loop-holds c = search (needs, way-start)
 
--- src/lib.rt:390:13
 height-at-requires : tie.Need-height-at-requires Inv-loop μ-loop
 height-at-requires c κs = search needs
 
--- src/lib.rt:391:13
 height-at-requires-2 : tie.Need-height-at-requires-2 Inv-loop μ-loop
 height-at-requires-2 c κs = search needs
 
--- src/lib.rt:393:13
 mul-m : tie.Need-mul-m Inv-loop μ-loop
 mul-m c = search needs
 
--- src/lib.rt:393:13
 array-write-m : tie.Need-array-write-m Inv-loop μ-loop
 array-write-m c = search needs
 
--- src/lib.rt:394:22
 mul-wide : tie.Need-mul-wide Inv-loop μ-loop
 mul-wide c = search needs
 
--- src/lib.rt:394:22
 element-copy-out-wide : tie.Need-element-copy-out-wide Inv-loop μ-loop
 element-copy-out-wide c = search needs
 
--- src/lib.rt:394:13
 wide-requires : tie.Need-wide-requires Inv-loop μ-loop
 wide-requires c κs = search needs
 
--- src/lib.rt:389:5
 loop-less : tie.Need-loop-less Inv-loop μ-loop
 loop-less c =
     let s = c .before .before .before .before .before .before .before in
@@ -60,7 +48,6 @@ loop-less c =
     let l = c .before .before .if1 .taken in
     less-right _ _ _ _ (s .pre .1) _ _ _ _ _ (i .0) (i .1) ha hb l d (c .wide .ensures)
 
--- src/lib.rt:389:5
 loop-again : tie.Need-loop-again Inv-loop μ-loop
 loop-again c =
     let s = c .before .before .before .before .before .before .before in
@@ -71,27 +58,21 @@ loop-again c =
     let l = c .before .before .if1 .taken in
     (i .0, in-right _ _ _ _ (s .pre .1) _ _ _ _ _ (i .0) (i .1) ha hb l d (c .wide .ensures), turn-right _ _ _ _ (s .pre .1) _ _ _ _ _ _ _ _ _ (i .2) (i .0) (i .1) ha hb l d (c .wide .ensures) (search needs))
 
--- src/lib.rt:396:13
 mul-m-2 : tie.Need-mul-m-2 Inv-loop μ-loop
 mul-m-2 c = search needs
 
--- src/lib.rt:396:13
 array-write-m-2 : tie.Need-array-write-m-2 Inv-loop μ-loop
 array-write-m-2 c = search needs
 
--- src/lib.rt:397:22
 mul-wide-2 : tie.Need-mul-wide-2 Inv-loop μ-loop
 mul-wide-2 c = search needs
 
--- src/lib.rt:397:22
 element-copy-out-wide-2 : tie.Need-element-copy-out-wide-2 Inv-loop μ-loop
 element-copy-out-wide-2 c = search needs
 
--- src/lib.rt:397:13
 wide-requires-2 : tie.Need-wide-requires-2 Inv-loop μ-loop
 wide-requires-2 c κs = search needs
 
--- src/lib.rt:389:5
 loop-less-2 : tie.Need-loop-less-2 Inv-loop μ-loop
 loop-less-2 c =
     let s = c .before .before .before .before .before .before .before in
@@ -102,7 +83,6 @@ loop-less-2 c =
     let l = c .before .before .if1 .left in
     less-left _ _ _ _ (s .pre .1) _ _ _ _ _ (i .0) (i .1) ha hb l d (c .wide2 .ensures)
 
--- src/lib.rt:389:5
 loop-again-2 : tie.Need-loop-again-2 Inv-loop μ-loop
 loop-again-2 c =
     let s = c .before .before .before .before .before .before .before in
@@ -113,7 +93,6 @@ loop-again-2 c =
     let l = c .before .before .if1 .left in
     (in-left _ _ _ _ (s .pre .1) _ _ _ _ _ (i .0) (i .1) ha hb l d (c .wide2 .ensures), i .1, turn-left _ _ _ _ (s .pre .1) _ _ _ _ _ _ _ _ _ (i .2) (i .0) (i .1) ha hb l d (c .wide2 .ensures) (search needs))
 
--- src/lib.rt:381:1
 returns : tie.Need-returns Inv-loop μ-loop
 returns c = search (needs, way-end)
 

@@ -1,3 +1,5 @@
+-- A node with a secondary parent decides by its top.
+-- Assumes nothing.
 use mathlib.Core.Path.{sym}
 use borrow.Author.Needs.{needs}
 use Rattle.finite.specs.Tests.{same, under}
@@ -6,15 +8,11 @@ use Rattle.network.specs.Tables.{memberWith}
 use Rattle.network.proofs.Loops.{rest-laws}
 use Rattle.network.proofs.member_with.Statement.{statement}
 use Rattle.network.proofs.member_with.Tie as tie
-use Rattle.network.proofs.member_with.Reads as reads
-use Rattle.network.proofs.member_with.Lts as lts
 
--- src/lib.rt:470:9
 returns : tie.Need-returns
 unfolding memberWith
 returns c = sym (search (needs, test-laws, told-laws) depth 9)
 
--- src/lib.rt:466:1
 returns-2 : tie.Need-returns-2
 unfolding memberWith same under
 returns-2 c = search (needs, rest-laws, told-laws) depth 9

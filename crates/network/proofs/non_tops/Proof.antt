@@ -1,13 +1,12 @@
-use Prim.Native.Nat.{ℕ, _+_, _-_, _≤_}
+-- The ways of the reticulations passed are marked; with all of them marked, what is not marked is a top.
+-- Assumes nothing.
+use Prim.Native.Nat.{_-_, _≤_}
 use borrow.Author.Needs.{needs}
 use Rattle.topology.specs.Tables.{networkOf}
 use Rattle.network.specs.Tables.{zeros, MarkedWays}
 use Rattle.network.proofs.Ways.{ways-none, ways-end}
 use Rattle.network.proofs.non_tops.Statement.{statement}
 use Rattle.network.proofs.non_tops.Tie as tie
-use Rattle.network.proofs.non_tops.Reads as reads
-use Rattle.network.proofs.non_tops.Lts as lts
-use Rattle.network.proofs.mark_next.Reads as mark-next-reads
 
 abbrev Inv-loop : tie.InvT-loop
 Inv-loop n principal secondary stamp m₀ v₀ m v = (v ≤ n) × MarkedWays (networkOf n principal secondary stamp) m v
@@ -15,28 +14,22 @@ Inv-loop n principal secondary stamp m₀ v₀ m v = (v ≤ n) × MarkedWays (ne
 abbrev μ-loop : tie.MeasureT-loop
 μ-loop n principal secondary stamp m₀ v₀ m v = n - v
 
--- src/lib.rt:426:5
 loop-holds : tie.Need-loop-holds Inv-loop μ-loop
 unfolding zeros
 loop-holds c = search (needs, ways-none)
 
--- src/lib.rt:427:13
 mark-next-requires : tie.Need-mark-next-requires Inv-loop μ-loop
 mark-next-requires c κs = search needs
 
--- src/lib.rt:429:9
 add-v : tie.Need-add-v Inv-loop μ-loop
 add-v c = search needs
 
--- src/lib.rt:426:5
 loop-less : tie.Need-loop-less Inv-loop μ-loop
 loop-less c = search needs
 
--- src/lib.rt:426:5
 loop-again : tie.Need-loop-again Inv-loop μ-loop
 loop-again c = search needs
 
--- src/lib.rt:419:1
 returns : tie.Need-returns Inv-loop μ-loop
 returns c = search (needs, ways-end)
 

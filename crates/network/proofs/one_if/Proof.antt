@@ -1,15 +1,13 @@
+-- By cases of the test.
+-- Assumes nothing.
 use borrow.Author.Needs.{needs}
 use Rattle.finite.proofs.Tests.{is-same, not-same}
 use Rattle.network.proofs.one_if.Statement.{statement}
 use Rattle.network.proofs.one_if.Tie as tie
-use Rattle.network.proofs.one_if.Reads as reads
-use Rattle.network.proofs.one_if.Lts as lts
 
--- src/lib.rt:23:9
 returns : tie.Need-returns
 returns c = (rw (is-same (c .if1 .taken)), search needs)
 
--- src/lib.rt:19:1
 returns-2 : tie.Need-returns-2
 returns-2 c = (rw (not-same (c .if1 .left)), search needs)
 

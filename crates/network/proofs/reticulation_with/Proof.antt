@@ -1,3 +1,5 @@
+-- Each return stands behind the tests that the definition asks in the same order.
+-- Assumes nothing.
 use mathlib.Core.Path.{sym}
 use borrow.Author.Needs.{needs}
 use Rattle.finite.specs.Tests.{same, under}
@@ -6,25 +8,19 @@ use Rattle.network.specs.Refusals.{reticulationWith}
 use Rattle.network.proofs.Loops.{rest-laws}
 use Rattle.network.proofs.reticulation_with.Statement.{statement}
 use Rattle.network.proofs.reticulation_with.Tie as tie
-use Rattle.network.proofs.reticulation_with.Reads as reads
-use Rattle.network.proofs.reticulation_with.Lts as lts
 
--- src/lib.rt:142:9
 returns : tie.Need-returns
 unfolding reticulationWith
 returns c = sym (search (needs, test-laws, told-laws) depth 9)
 
--- src/lib.rt:145:9
 returns-2 : tie.Need-returns-2
 unfolding reticulationWith
 returns-2 c = sym (search (needs, test-laws, told-laws) depth 9)
 
--- src/lib.rt:148:9
 returns-3 : tie.Need-returns-3
 unfolding reticulationWith
 returns-3 c = sym (search (needs, test-laws, told-laws) depth 9)
 
--- src/lib.rt:138:1
 returns-4 : tie.Need-returns-4
 unfolding reticulationWith same under
 returns-4 c = search (needs, rest-laws, told-laws) depth 9

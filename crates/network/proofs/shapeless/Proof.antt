@@ -1,3 +1,5 @@
+-- Each return stands behind the three shapes in the order of the definition.
+-- Assumes nothing.
 use mathlib.Core.Path.{sym}
 use Rattle.finite.specs.Tests.{same, under}
 use Rattle.finite.proofs.Tests.{test-laws, told-laws}
@@ -6,35 +8,24 @@ use Rattle.network.proofs.Loops.{rest-laws}
 use borrow.Author.Needs.{needs}
 use Rattle.network.proofs.shapeless.Statement.{statement}
 use Rattle.network.proofs.shapeless.Tie as tie
-use Rattle.network.proofs.shapeless.Reads as reads
-use Rattle.network.proofs.shapeless.Lts as lts
-use Rattle.network.proofs.inner_with.Reads as inner-with-reads
-use Rattle.network.proofs.leaf_with.Reads as leaf-with-reads
-use Rattle.network.proofs.reticulation_with.Reads as reticulation-with-reads
 
--- src/lib.rt:183:8
 reticulation-with-requires : tie.Need-reticulation-with-requires
 reticulation-with-requires c κs = search needs
 
--- src/lib.rt:184:9
 returns : tie.Need-returns
 unfolding shapeless
 returns c = sym (search (needs, test-laws, told-laws) depth 9)
 
--- src/lib.rt:186:8
 inner-with-requires : tie.Need-inner-with-requires
 inner-with-requires c κs = search needs
 
--- src/lib.rt:187:9
 returns-2 : tie.Need-returns-2
 unfolding shapeless
 returns-2 c = sym (search (needs, test-laws, told-laws) depth 9)
 
--- src/lib.rt:189:6
 leaf-with-requires : tie.Need-leaf-with-requires
 leaf-with-requires c κs = search needs
 
--- src/lib.rt:179:1
 returns-3 : tie.Need-returns-3
 unfolding shapeless same under
 returns-3 c = search (needs, rest-laws, told-laws) depth 9

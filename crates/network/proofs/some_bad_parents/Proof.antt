@@ -1,16 +1,14 @@
-use Prim.Native.Nat.{ℕ, _+_, _-_, _≤_}
+-- No node tested so far has bad parents; one that has settles the answer.
+-- Assumes nothing.
+use Prim.Native.Nat.{_-_, _≤_}
 use mathlib.Core.Path.{_≡_}
-use mathlib.Core.Bool.{true, false}
+use mathlib.Core.Bool.{false}
 use borrow.Author.Needs.{needs}
-use Rattle.finite.specs.Range.{some, every}
-use Rattle.finite.proofs.Every.{every-loop}
+use Rattle.finite.specs.Range.{some}
 use Rattle.network.specs.Refusals.{badParentsAt}
 use Rattle.network.proofs.Loops.{some-loop}
 use Rattle.network.proofs.some_bad_parents.Statement.{statement}
 use Rattle.network.proofs.some_bad_parents.Tie as tie
-use Rattle.network.proofs.some_bad_parents.Reads as reads
-use Rattle.network.proofs.some_bad_parents.Lts as lts
-use Rattle.network.proofs.bad_parents_at.Reads as bad-parents-at-reads
 
 abbrev Inv-loop : tie.InvT-loop
 Inv-loop n principal secondary v₀ v = (v ≤ n) × (some v (badParentsAt n principal secondary) ≡ false)
@@ -18,35 +16,27 @@ Inv-loop n principal secondary v₀ v = (v ≤ n) × (some v (badParentsAt n pri
 abbrev μ-loop : tie.MeasureT-loop
 μ-loop n principal secondary v₀ v = n - v
 
--- src/lib.rt:77:5
 loop-holds : tie.Need-loop-holds Inv-loop μ-loop
 loop-holds c = search (needs, some-loop)
 
--- src/lib.rt:78:52
 add-bad-parents-at : tie.Need-add-bad-parents-at Inv-loop μ-loop
 add-bad-parents-at c = search needs
 
--- src/lib.rt:78:12
 bad-parents-at-requires : tie.Need-bad-parents-at-requires Inv-loop μ-loop
 bad-parents-at-requires c κs = search needs
 
--- src/lib.rt:79:13
 returns : tie.Need-returns Inv-loop μ-loop
 returns c = search (needs, some-loop)
 
--- src/lib.rt:81:9
 add-v : tie.Need-add-v Inv-loop μ-loop
 add-v c = search needs
 
--- src/lib.rt:77:5
 loop-less : tie.Need-loop-less Inv-loop μ-loop
 loop-less c = search needs
 
--- src/lib.rt:77:5
 loop-again : tie.Need-loop-again Inv-loop μ-loop
 loop-again c = search (needs, some-loop)
 
--- src/lib.rt:72:1
 returns-2 : tie.Need-returns-2 Inv-loop μ-loop
 returns-2 c = search (needs, some-loop)
 

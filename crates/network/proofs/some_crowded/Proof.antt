@@ -1,15 +1,14 @@
-use Prim.Native.Nat.{ℕ, _+_, _-_, _≤_}
+-- No component tested so far is crowded; one that is settles the answer.
+-- Assumes nothing.
+use Prim.Native.Nat.{_-_, _≤_}
 use mathlib.Core.Path.{_≡_}
-use mathlib.Core.Bool.{true, false}
+use mathlib.Core.Bool.{false}
 use borrow.Author.Needs.{needs}
 use Rattle.finite.specs.Range.{some}
 use Rattle.network.specs.Tables.{crowdedFrom}
 use Rattle.network.proofs.Loops.{some-loop}
 use Rattle.network.proofs.some_crowded.Statement.{statement}
 use Rattle.network.proofs.some_crowded.Tie as tie
-use Rattle.network.proofs.some_crowded.Reads as reads
-use Rattle.network.proofs.some_crowded.Lts as lts
-use Rattle.network.proofs.crowded_from.Reads as crowded-from-reads
 
 abbrev Inv-loop : tie.InvT-loop
 Inv-loop n members v₀ v = (v ≤ n) × (some v (crowdedFrom members) ≡ false)
@@ -17,35 +16,27 @@ Inv-loop n members v₀ v = (v ≤ n) × (some v (crowdedFrom members) ≡ false
 abbrev μ-loop : tie.MeasureT-loop
 μ-loop n members v₀ v = n - v
 
--- src/lib.rt:613:5
 loop-holds : tie.Need-loop-holds Inv-loop μ-loop
 loop-holds c = search (needs, some-loop)
 
--- src/lib.rt:614:34
 add-crowded-from : tie.Need-add-crowded-from Inv-loop μ-loop
 add-crowded-from c = search needs
 
--- src/lib.rt:614:12
 crowded-from-requires : tie.Need-crowded-from-requires Inv-loop μ-loop
 crowded-from-requires c κs = search needs
 
--- src/lib.rt:615:13
 returns : tie.Need-returns Inv-loop μ-loop
 returns c = search (needs, some-loop)
 
--- src/lib.rt:617:9
 add-v : tie.Need-add-v Inv-loop μ-loop
 add-v c = search needs
 
--- src/lib.rt:613:5
 loop-less : tie.Need-loop-less Inv-loop μ-loop
 loop-less c = search needs
 
--- src/lib.rt:613:5
 loop-again : tie.Need-loop-again Inv-loop μ-loop
 loop-again c = search (needs, some-loop)
 
--- src/lib.rt:608:1
 returns-2 : tie.Need-returns-2 Inv-loop μ-loop
 returns-2 c = search (needs, some-loop)
 

@@ -1,4 +1,6 @@
-use Prim.Native.Nat.{ℕ, _+_, _-_, _≤_}
+-- A marked node is no top, so its component is that of its principal parent, whose height is less; the first node without a mark is the top.
+-- Assumes nothing.
+use Prim.Native.Nat.{_-_, _≤_}
 use mathlib.Core.Path.{_≡_}
 use borrow.Author.Needs.{needs}
 use Rattle.topology.specs.Switchings.{height}
@@ -7,9 +9,6 @@ use Rattle.topology.specs.Tables.{networkOf}
 use Rattle.network.proofs.Ways.{top-end, up-low, up-high, up-less, up-same}
 use Rattle.network.proofs.top_of.Statement.{statement}
 use Rattle.network.proofs.top_of.Tie as tie
-use Rattle.network.proofs.top_of.Reads as reads
-use Rattle.network.proofs.top_of.Lts as lts
-use Rattle.network.proofs.wide.Reads as wide-reads
 
 abbrev Inv-loop : tie.InvT-loop
 Inv-loop n principal secondary stamp marks v a₀ a = (1 ≤ a) × (a ≤ n) × (component (networkOf n principal secondary stamp) a ≡ component (networkOf n principal secondary stamp) v)
@@ -17,31 +16,24 @@ Inv-loop n principal secondary stamp marks v a₀ a = (1 ≤ a) × (a ≤ n) × 
 abbrev μ-loop : tie.MeasureT-loop
 μ-loop n principal secondary stamp marks v a₀ a = height (networkOf n principal secondary stamp) a
 
--- src/lib.rt:441:5
 loop-holds : tie.Need-loop-holds Inv-loop μ-loop
 loop-holds c = search needs
 
--- src/lib.rt:441:11
 mul-if1 : tie.Need-mul-if1 Inv-loop μ-loop
 mul-if1 c = search needs
 
--- src/lib.rt:441:11
 element-copy-out-if1 : tie.Need-element-copy-out-if1 Inv-loop μ-loop
 element-copy-out-if1 c = search needs
 
--- src/lib.rt:442:18
 mul-wide : tie.Need-mul-wide Inv-loop μ-loop
 mul-wide c = search needs
 
--- src/lib.rt:442:18
 element-copy-out-wide : tie.Need-element-copy-out-wide Inv-loop μ-loop
 element-copy-out-wide c = search needs
 
--- src/lib.rt:442:9
 wide-requires : tie.Need-wide-requires Inv-loop μ-loop
 wide-requires c κs = search needs
 
--- src/lib.rt:441:5
 loop-less : tie.Need-loop-less Inv-loop μ-loop
 loop-less c =
     let s = c .before .before .before .before .before in
@@ -49,7 +41,6 @@ loop-less c =
     let d = c .before .before .if1 .taken in
     up-less _ _ _ _ _ (s .pre .1 .0) (s .pre .1 .1) _ (i .0) (i .1) _ d (c .wide .ensures)
 
--- src/lib.rt:441:5
 loop-again : tie.Need-loop-again Inv-loop μ-loop
 loop-again c =
     let s = c .before .before .before .before .before in
@@ -57,11 +48,9 @@ loop-again c =
     let d = c .before .before .if1 .taken in
     (up-low _ _ _ _ _ (s .pre .1 .0) (s .pre .1 .1) _ (i .0) (i .1) _ d (c .wide .ensures), up-high _ _ _ _ _ (s .pre .1 .0) (s .pre .1 .1) _ (i .0) (i .1) _ d (c .wide .ensures), up-same _ _ _ _ _ (s .pre .1 .0) (s .pre .1 .1) _ (i .0) (i .1) _ d (c .wide .ensures) _ (i .2))
 
--- src/lib.rt:444:5
 cast-result : tie.Need-cast-result Inv-loop μ-loop
 cast-result c = search needs
 
--- src/lib.rt:434:1
 returns : tie.Need-returns Inv-loop μ-loop
 returns c =
     let s = c .before .before .before in

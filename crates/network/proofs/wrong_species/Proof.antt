@@ -1,3 +1,5 @@
+-- Each return stands behind the tests that the definition asks in the same order.
+-- Assumes nothing.
 use mathlib.Core.Path.{sym}
 use borrow.Author.Needs.{needs}
 use Rattle.finite.specs.Tests.{same}
@@ -6,20 +8,15 @@ use Rattle.network.specs.ShortForms.{wrongSpecies}
 use Rattle.network.proofs.Loops.{rest-laws}
 use Rattle.network.proofs.wrong_species.Statement.{statement}
 use Rattle.network.proofs.wrong_species.Tie as tie
-use Rattle.network.proofs.wrong_species.Reads as reads
-use Rattle.network.proofs.wrong_species.Lts as lts
 
--- src/lib.rt:231:13
 returns : tie.Need-returns
 unfolding wrongSpecies
 returns c = sym (search (needs, test-laws) depth 9)
 
--- src/lib.rt:233:9
 returns-2 : tie.Need-returns-2
 unfolding wrongSpecies same
 returns-2 c = search (needs, rest-laws, pick-laws) depth 9
 
--- src/lib.rt:226:1
 returns-3 : tie.Need-returns-3
 unfolding wrongSpecies same
 returns-3 c = search (needs, rest-laws, pick-laws) depth 9
