@@ -1,0 +1,10 @@
+pub mod Loops
+pub mod Counting
+pub mod Tables
+pub mod Readings
+pub mod ShortForms
+pub mod Acceptance
+pub mod Ways
+pub mod Reckoning
+pub mod Verdicts
+pub mod Bounds

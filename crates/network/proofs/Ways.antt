@@ -1,0 +1,256 @@
+-- The way between two nodes of the principal tree, climbed from the node of larger height, is what is above just one of them (`between-left`); the
+-- nodes on the ways between the two ends of the secondary arcs are those that are no tops (`ways-are`).
+-- Assumes nothing.
+use mathlib.Core.Path.{_≡_, refl, sym, _∙_, ap}
+use mathlib.Core.Logic.{_≢_}
+use mathlib.Core.Bool.{Bool, true, false, not, cond, _&&_, _||_, Bool·beq}
+use mathlib.Core.List.{List}
+use Prim.Native.Nat.{ℕ, zero, suc, _+_, _≤_, _<_}
+use lib.ListN.{length, set, length-set}
+use lib.Seq.{getD-set-same, getD-set-other}
+use native.Mathlib.Numerals.{add-one}
+use native.Mathlib.Omega.{arith}
+use Rattle.finite.specs.Tests.{same}
+use Rattle.finite.specs.Range.{some, every}
+use Rattle.finite.specs.Tables.{at}
+use Rattle.finite.proofs.Cases.{byBool, byEq, byLess, clash}
+use Rattle.finite.proofs.Tests.{is-same, not-same, is-beq, test-iff, or-yes-r, not-true, not-false, not-yes, tally-le}
+use Rattle.finite.proofs.Every.{some-at, is-every}
+use Rattle.topology.specs.Networks.{Network, Node, Sound, Reticulation, isReticulation}
+use Rattle.topology.specs.Switchings.{allPrincipal, height, above}
+use Rattle.topology.specs.Components.{isTop, component}
+use Rattle.topology.proofs.Climbing.{low-some}
+use Rattle.topology.proofs.Above.{reticulation-node, node-secondary, node-principal, fall-principal, falls-principal, above-self, above-low, tree-not, reticulation-is, is-reticulation}
+use Rattle.topology.proofs.Components.{root-above, component-top, component-up, top-root, top-reticulation}
+use Rattle.topology.specs.Tables.{rankFrom, networkOf}
+use Rattle.finite.proofs.Tables.{within-in}
+use Rattle.network.specs.Refusals.{Numbered}
+use Rattle.network.proofs.Counting.{some-none}
+use Rattle.network.proofs.Acceptance.{numbered, node-is, principal-at, secondary-at}
+use Rattle.network.proofs.Tables.{zeros-long, zeros-at}
+use Rattle.network.specs.Tables.{heightWith, heightAt, zeros, between, bridged, marked, MarkedWay, MarkedWays, NonTops}
+
+-- marking a node
+pub marked-set : (m : List ℕ) (a : ℕ) → a < length m → (w : ℕ) → marked (set m a 1) w ≡ (same w a || marked m w)
+unfolding marked
+marked-set m a l w = byEq w a
+    (λ e. rw (e, getD-set-same m a 1 0 l, is-same {m = a} refl, not-same {m = 1} {n = 0} (λ q. omega arith)))
+    (λ d. rw (getD-set-other m a w 1 0 d, not-same d))
+
+-- a reticulation whose two ends are both below w or both not
+plain-way : (N : Network) (w r : ℕ) → (Reticulation N r → above N allPrincipal w r ≡ above N allPrincipal w (N .secondary r)) → bridged N w r ≡ false
+unfolding bridged between
+plain-way N w r h = byBool (isReticulation N r) (λ t. rw (t, is-beq (h (reticulation-is N r t)))) (λ t. rw t)
+
+way-plain : (N : Network) (w r : ℕ) → Reticulation N r → bridged N w r ≡ false → Bool·beq (above N allPrincipal w r) (above N allPrincipal w (N .secondary r)) ≡ true
+unfolding bridged between
+way-plain N w r d t = not-false _ (rw (is-reticulation N r d) at t)
+
+top-by : (N : Network) (w : ℕ) → ((r : ℕ) → 1 ≤ r → r ≤ N .size → Reticulation N r → Bool·beq (above N allPrincipal w r) (above N allPrincipal w (N .secondary r)) ≡ true) → isTop N w ≡ true
+unfolding isTop
+top-by N w h = or-yes-r (same (N .principal w) 0) _ (is-every (N .size) _ (λ r l u. byEq (N .secondary r) 0 (λ e. rw (is-same e)) (λ d. rw (not-same d) (h r l u d))))
+
+or-false-r : (a b : Bool) → b ≡ false → (a || b) ≡ a
+or-false-r true b e = refl
+or-false-r false b e = e
+
+shuffle : (a b c : Bool) → ((a || b) || c) ≡ (b || (a || c))
+shuffle true true c = refl
+shuffle true false c = refl
+shuffle false b c = refl
+
+module _ (N : Network) (ok : Sound N) where
+  open Network N using (size, principal, secondary)
+
+  pub between-same : (a w : ℕ) → between N a a w ≡ false
+  unfolding between
+  between-same a w = rw (is-beq {a = above N allPrincipal w a} refl)
+
+  pub between-sym : (a b w : ℕ) → between N a b w ≡ between N b a w
+  unfolding between
+  between-sym a b w = byBool (above N allPrincipal w a) (λ p. byBool (above N allPrincipal w b) (λ q. rw (p, q)) (λ q. rw (p, q))) (λ p. byBool (above N allPrincipal w b) (λ q. rw (p, q)) (λ q. rw (p, q)))
+
+  -- one step from the node of larger height
+  pub between-left : (a b w : ℕ) → height N b ≤ height N a → a ≢ b → between N a b w ≡ (same w a || between N (principal a) b w)
+  unfolding between
+  between-left a b w l d = byEq w a
+      (λ e. rw (e, above-self N ok allPrincipal a, apart, is-same {m = a} refl))
+      (λ q. rw (tree-not N ok w a q, not-same q))
+    where
+      apart : above N allPrincipal a b ≡ false
+      apart = byBool (above N allPrincipal a b) (λ t. absurd (omega (arith, above-low N ok allPrincipal a b t d))) (λ t. t)
+
+  -- a node is a top exactly when it is on none of the ways
+  pub ways-are : (w : ℕ) → Node N w → isTop N w ≡ not (some size (bridged N w))
+  ways-are w k = test-iff (isTop N w) (not (some size (bridged N w)))
+      (λ t. not-yes _ (byBool (some size (bridged N w)) (λ q. let r = some-at size (bridged N w) q in clash (r .3) (kept t (r .0))) (λ q. q)))
+      (λ q. crossed-none (not-true _ q))
+    where
+      kept : isTop N w ≡ true → (r : ℕ) → bridged N w r ≡ false
+      kept t r = plain-way N w r (λ d. top-reticulation N ok w r k t d)
+
+      crossed-none : some size (bridged N w) ≡ false → isTop N w ≡ true
+      crossed-none q = top-by N w (λ r l u d. way-plain N w r d (some-none size (bridged N w) q r l u))
+
+-- climbing from a and b, with what is marked: what was to be marked is marked or still to come
+pub record OnWay (N : Network) (before : List ℕ) (x y : ℕ) (marks : List ℕ) (a b : ℕ) : Type 0 where
+  pub long : length marks ≡ 128
+  pub at-each : (w : ℕ) → (marked marks w || between N a b w) ≡ (marked before w || between N x y w)
+
+module _ (n : ℕ) (principal secondary stamp : List ℕ) (ok : Sound (networkOf n principal secondary stamp)) where
+  abbrev N : Network
+  N = networkOf n principal secondary stamp
+
+  pub height-is : (v : ℕ) → v ≤ n → heightAt secondary stamp v ≡ height N v
+  unfolding heightAt heightWith height networkOf
+  height-is v u = byEq v 0 (λ e. rw (is-same e)) (λ d. rw (not-same d, within-in n (at secondary) v (omega arith) u, within-in n (at stamp) v (omega arith) u))
+
+  -- a step from the node of larger height
+  module _ (a b ha hb p : ℕ) (ia : a ≤ n) (ib : b ≤ n) (ea : ha ≡ heightAt secondary stamp a) (eb : hb ≡ heightAt secondary stamp b) (l : hb ≤ ha) (d : a ≢ b) (e : p ≡ at principal a) where
+    low : height N b ≤ height N a
+    low = omega (arith, height-is a ia, height-is b ib)
+
+    some-node : a ≢ 0
+    some-node = low-some (height N) (N .principal) (falls-principal N ok) a b low d
+
+    node : Numbered n a
+    node = let z = some-node in record { low = omega arith; high = ia }
+
+    step-is : p ≡ N .principal a
+    step-is = e ∙ sym (principal-at n principal secondary stamp a node)
+
+    step-in : p ≤ n
+    unfolding networkOf
+    step-in = rw step-is (ok .in-principal a (node-is n principal secondary stamp a node))
+
+    step-falls : height N p < height N a
+    step-falls = rw step-is (fall-principal N ok a some-node)
+
+    step-marks : (m : List ℕ) → a < length m → (w : ℕ) → (marked (set m a 1) w || between N p b w) ≡ (marked m w || between N a b w)
+    step-marks m s w = rw (marked-set m a s w, between-left N ok a b w low d, step-is) (shuffle (same w a) (marked m w) (between N (N .principal a) b w))
+
+  module _ (before : List ℕ) (x y : ℕ) where
+    pub way-start : length before ≡ 128 → OnWay N before x y before x y
+    way-start q = record { long = q; at-each = λ w. refl }
+
+    pub way-end : (m : List ℕ) (a b : ℕ) → OnWay N before x y m a b → a ≡ b → MarkedWay N before m x y
+    way-end m a b o e = record { long = o .long; at-each = λ w. sym (or-false-r (marked m w) (between N a b w) (rw e (between-same N ok b w))) ∙ o .at-each w }
+
+    pub turn-left : (m : List ℕ) (a b ha hb p : ℕ) → OnWay N before x y m a b → a ≤ n → b ≤ n → ha ≡ heightAt secondary stamp a → hb ≡ heightAt secondary stamp b
+        → hb ≤ ha → (a ≡ b → ⊥) → p ≡ at principal a → a ≤ 127 → OnWay N before x y (set m a 1) p b
+    turn-left m a b ha hb p o ia ib ea eb l d e s = record { long = length-set m a 1 ∙ o .long; at-each = λ w. step-marks a b ha hb p ia ib ea eb l d e m (omega (arith, o .long)) w ∙ o .at-each w }
+
+    pub turn-right : (m : List ℕ) (a b ha hb p : ℕ) → OnWay N before x y m a b → a ≤ n → b ≤ n → ha ≡ heightAt secondary stamp a → hb ≡ heightAt secondary stamp b
+        → ha < hb → (a ≡ b → ⊥) → p ≡ at principal b → b ≤ 127 → OnWay N before x y (set m b 1) a p
+    turn-right m a b ha hb p o ia ib ea eb l d e s = record {
+      long = length-set m b 1 ∙ o .long;
+      at-each = λ w. ap (λ (t : Bool). marked (set m b 1) w || t) (between-sym N ok a p w)
+          ∙ step-marks b a hb ha p ib ia eb ea (omega arith) (λ q. d (sym q)) e m (omega (arith, o .long)) w
+          ∙ ap (λ (t : Bool). marked m w || t) (between-sym N ok b a w)
+          ∙ o .at-each w;
+    }
+
+  pub in-left : (a b ha hb p : ℕ) → a ≤ n → b ≤ n → ha ≡ heightAt secondary stamp a → hb ≡ heightAt secondary stamp b → hb ≤ ha → (a ≡ b → ⊥) → p ≡ at principal a → p ≤ n
+  in-left = step-in
+
+  pub in-right : (a b ha hb p : ℕ) → a ≤ n → b ≤ n → ha ≡ heightAt secondary stamp a → hb ≡ heightAt secondary stamp b → ha < hb → (a ≡ b → ⊥) → p ≡ at principal b → p ≤ n
+  in-right a b ha hb p ia ib ea eb l d e = step-in b a hb ha p ib ia eb ea (omega arith) (λ q. d (sym q)) e
+
+  pub less-left : (a b ha hb p : ℕ) → a ≤ n → b ≤ n → ha ≡ heightAt secondary stamp a → hb ≡ heightAt secondary stamp b → hb ≤ ha → (a ≡ b → ⊥) → p ≡ at principal a
+      → height N p + height N b < height N a + height N b
+  less-left a b ha hb p ia ib ea eb l d e = omega (arith, step-falls a b ha hb p ia ib ea eb l d e)
+
+  pub less-right : (a b ha hb p : ℕ) → a ≤ n → b ≤ n → ha ≡ heightAt secondary stamp a → hb ≡ heightAt secondary stamp b → ha < hb → (a ≡ b → ⊥) → p ≡ at principal b
+      → height N a + height N p < height N a + height N b
+  less-right a b ha hb p ia ib ea eb l d e = omega (arith, step-falls b a hb ha p ib ia eb ea (omega arith) (λ q. d (sym q)) e)
+
+-- one reticulation more, and all
+some-next : (k : ℕ) (f : ℕ → Bool) → some (k + 1) f ≡ (some k f || f (k + 1))
+unfolding some
+some-next k f = rw add-one (byBool (some k f) (λ t. rw t (byBool (f (suc k)) (λ q. rw q) (λ q. rw q))) (λ t. rw t (byBool (f (suc k)) (λ q. rw q) (λ q. rw q))))
+
+bridged-none : (N : Network) (w r : ℕ) → N .secondary r ≡ 0 → bridged N w r ≡ false
+bridged-none N w r e = plain-way N w r (λ d. absurd (d e))
+
+bridged-is : (N : Network) (w r : ℕ) → N .secondary r ≢ 0 → bridged N w r ≡ between N r (N .secondary r) w
+unfolding bridged
+bridged-is N w r d = rw (is-reticulation N r d)
+
+module _ (n : ℕ) (principal secondary stamp : List ℕ) where
+  abbrev M : Network
+  M = networkOf n principal secondary stamp
+
+  pub ways-none : (marks : List ℕ) → marks ≡ zeros → MarkedWays M marks 0
+  unfolding marked some
+  ways-none marks e = record { long = rw e zeros-long; at-each = λ w. rw (e, zeros-at w, is-same {m = 0} refl) }
+
+  module _ (before : List ℕ) (k : ℕ) (h : MarkedWays M before k) (l : k < n) where
+    second : M .secondary (k + 1) ≡ at secondary (k + 1)
+    second = secondary-at n principal secondary stamp (k + 1) (record { low = omega arith; high = omega arith })
+
+    pub ways-plain : (s : ℕ) → s ≡ at secondary (k + 1) → s ≡ 0 → MarkedWays M before (k + 1)
+    ways-plain s q z = let e : at secondary (k + 1) ≡ 0 = sym q ∙ z in record {
+      long = h .long;
+      at-each = λ w. h .at-each w ∙ sym (some-next k (bridged M w) ∙ or-false-r (some k (bridged M w)) (bridged M w (k + 1)) (bridged-none M w (k + 1) (second ∙ e)));
+    }
+
+    pub ways-more : (after : List ℕ) (s : ℕ) → s ≡ at secondary (k + 1) → (s ≡ 0 → ⊥) → MarkedWay M before after (k + 1) s → MarkedWays M after (k + 1)
+    ways-more after s q d m = record {
+      long = m .long;
+      at-each = λ w. m .at-each w
+          ∙ rw (h .at-each w, q, ← second, ← bridged-is M w (k + 1) (λ e. d (q ∙ sym second ∙ e))) (sym (some-next k (bridged M w)));
+    }
+
+  pub second-in : (k s : ℕ) → Sound M → k < n → s ≡ at secondary (k + 1) → s ≤ n
+  second-in k s ok l q = let j : Numbered n (k + 1) = record { low = omega arith; high = omega arith } in
+      byEq s 0 (λ e. omega arith) (λ d. let i = node-secondary M ok (k + 1) (λ e. d (q ∙ sym (secondary-at n principal secondary stamp (k + 1) j) ∙ e)) in
+      omega (arith, numbered n principal secondary stamp (M .secondary (k + 1)) i .high, secondary-at n principal secondary stamp (k + 1) j))
+
+  pub ways-end : (marks : List ℕ) (v : ℕ) → Sound M → v ≤ n → n ≤ v → MarkedWays M marks v → NonTops M marks
+  unfolding networkOf
+  ways-end marks v ok a b h = let e : v ≡ n = omega arith in
+      record { at-each = λ w k. ways-are M ok w k ∙ ap not (sym ((rw e at h) .at-each w)) }
+
+-- going up from a node that is no top
+module _ (n : ℕ) (principal secondary stamp marks : List ℕ) (ok : Sound (networkOf n principal secondary stamp)) (tops : NonTops (networkOf n principal secondary stamp) marks) where
+  abbrev K : Network
+  K = networkOf n principal secondary stamp
+
+  module _ (a : ℕ) (l : 1 ≤ a) (u : a ≤ n) where
+    num : Numbered n a
+    num = record { low = l; high = u }
+
+    kin : Node K a
+    kin = node-is n principal secondary stamp a num
+
+    pub top-end : (v : ℕ) → component K a ≡ component K v → at marks a ≡ 0 → a ≡ component K v
+    unfolding marked
+    top-end v e z = sym (component-top K ok a (tops .at-each a kin ∙ rw (is-same z))) ∙ e
+
+    module _ (p : ℕ) (d : at marks a ≡ 0 → ⊥) (e : p ≡ at principal a) where
+      no-top : isTop K a ≡ false
+      unfolding marked
+      no-top = tops .at-each a kin ∙ rw (not-same d)
+
+      up : p ≡ K .principal a
+      up = e ∙ sym (principal-at n principal secondary stamp a num)
+
+      kin-up : Node K (K .principal a)
+      kin-up = node-principal K ok a kin (λ q. clash (top-root K ok a q) no-top)
+
+      pub up-low : 1 ≤ p
+      up-low = rw up (kin-up .low)
+
+      pub up-high : p ≤ n
+      up-high = rw up (numbered n principal secondary stamp (K .principal a) kin-up .high)
+
+      pub up-less : height K p < height K a
+      up-less = rw up (fall-principal K ok a (omega (arith, l)))
+
+      pub up-same : (v : ℕ) → component K a ≡ component K v → component K p ≡ component K v
+      up-same v q = rw up (sym (component-up K ok a no-top) ∙ q)
+
+-- a height of a stamp of six columns
+pub height-small : (secondary stamp : List ℕ) (v : ℕ) → at stamp v < 1000000 → heightAt secondary stamp v ≤ 2000000
+unfolding heightAt heightWith rankFrom
+height-small secondary stamp v l = byEq v 0 (λ e. rw (is-same e) (omega arith)) (λ d. rw (not-same d) (omega (arith, tally-le (not (same (at secondary v) 0)))))

@@ -1,0 +1,65 @@
+-- Each return stands behind the refusals before it; where 6, 7 and 8 have passed the network is sound, which the climbs of 11 ask.
+-- Assumes nothing.
+use Rattle.finite.proofs.Tests.{told}
+use Rattle.network.proofs.Acceptance.{sound}
+use Rattle.network.proofs.Verdicts.{verdict-is-6, verdict-is-7, verdict-is-8, verdict-is-9, verdict-is-10, verdict-is-11, verdict-is-0}
+use borrow.Author.Needs.{needs}
+use Rattle.network.proofs.verdict.Statement.{statement}
+use Rattle.network.proofs.verdict.Tie as tie
+
+six-requires : tie.Need-six-requires
+six-requires c κs = search needs
+
+returns : tie.Need-returns
+returns c = verdict-is-6 _ _ _ _ _ (told _ _ _ (c .before .six .ensures) (c .if1 .taken))
+
+seven-requires : tie.Need-seven-requires
+seven-requires c κs = (search needs, told _ _ _ (c .before .six .ensures) (c .if1 .left))
+
+returns-2 : tie.Need-returns-2
+returns-2 c = verdict-is-7 _ _ _ _ _ (told _ _ _ (c .before .before .before .six .ensures) (c .before .before .if1 .left)) (told _ _ _ (c .before .seven .ensures) (c .if2 .taken))
+
+eight-requires : tie.Need-eight-requires
+eight-requires c κs = search needs
+
+returns-3 : tie.Need-returns-3
+returns-3 c = verdict-is-8 _ _ _ _ _ (told _ _ _ (c .before .before .before .before .before .six .ensures) (c .before .before .before .before .if1 .left)) (told _ _ _ (c .before .before .before .seven .ensures) (c .before .before .if2 .left)) (told _ _ _ (c .before .eight .ensures) (c .if3 .taken))
+
+nine-requires : tie.Need-nine-requires
+nine-requires c κs = search needs
+
+returns-4 : tie.Need-returns-4
+returns-4 c = verdict-is-9 _ _ _ _ _ (told _ _ _ (c .before .before .before .before .before .before .before .six .ensures) (c .before .before .before .before .before .before .if1 .left)) (told _ _ _ (c .before .before .before .before .before .seven .ensures) (c .before .before .before .before .if2 .left)) (told _ _ _ (c .before .before .before .eight .ensures) (c .before .before .if3 .left)) (told _ _ _ (c .before .nine .ensures) (c .if4 .taken))
+
+ten-requires : tie.Need-ten-requires
+ten-requires c κs = search needs
+
+returns-5 : tie.Need-returns-5
+returns-5 c = verdict-is-10 _ _ _ _ _ (told _ _ _ (c .before .before .before .before .before .before .before .before .before .six .ensures) (c .before .before .before .before .before .before .before .before .if1 .left)) (told _ _ _ (c .before .before .before .before .before .before .before .seven .ensures) (c .before .before .before .before .before .before .if2 .left)) (told _ _ _ (c .before .before .before .before .before .eight .ensures) (c .before .before .before .before .if3 .left)) (told _ _ _ (c .before .before .before .nine .ensures) (c .before .before .if4 .left)) (told _ _ _ (c .before .ten .ensures) (c .if5 .taken))
+
+eleven-requires : tie.Need-eleven-requires
+eleven-requires c κs = (search needs, sound _ _ _ _ (told _ _ _ (c .before .before .before .before .before .before .before .before .before .six .ensures) (c .before .before .before .before .before .before .before .before .if1 .left)) (told _ _ _ (c .before .before .before .before .before .before .before .seven .ensures) (c .before .before .before .before .before .before .if2 .left)) (told _ _ _ (c .before .before .before .before .before .eight .ensures) (c .before .before .before .before .if3 .left)))
+
+returns-6 : tie.Need-returns-6
+returns-6 c = verdict-is-11 _ _ _ _ _ (told _ _ _ (c .before .before .before .before .before .before .before .before .before .before .before .six .ensures) (c .before .before .before .before .before .before .before .before .before .before .if1 .left)) (told _ _ _ (c .before .before .before .before .before .before .before .before .before .seven .ensures) (c .before .before .before .before .before .before .before .before .if2 .left)) (told _ _ _ (c .before .before .before .before .before .before .before .eight .ensures) (c .before .before .before .before .before .before .if3 .left)) (told _ _ _ (c .before .before .before .before .before .nine .ensures) (c .before .before .before .before .if4 .left)) (told _ _ _ (c .before .before .before .ten .ensures) (c .before .before .if5 .left)) (told _ _ _ (c .before .eleven .ensures) (c .if6 .taken))
+
+returns-7 : tie.Need-returns-7
+returns-7 c = verdict-is-0 _ _ _ _ _ (told _ _ _ (c .before .before .before .before .before .before .before .before .before .before .before .six .ensures) (c .before .before .before .before .before .before .before .before .before .before .if1 .left)) (told _ _ _ (c .before .before .before .before .before .before .before .before .before .seven .ensures) (c .before .before .before .before .before .before .before .before .if2 .left)) (told _ _ _ (c .before .before .before .before .before .before .before .eight .ensures) (c .before .before .before .before .before .before .if3 .left)) (told _ _ _ (c .before .before .before .before .before .nine .ensures) (c .before .before .before .before .if4 .left)) (told _ _ _ (c .before .before .before .ten .ensures) (c .before .before .if5 .left)) (told _ _ _ (c .before .eleven .ensures) (c .if6 .left))
+
+pub verdict-spec : {M : Type 1} → statement M
+verdict-spec =
+    tie.close
+    (tie.spec
+    six-requires
+    returns
+    seven-requires
+    returns-2
+    eight-requires
+    returns-3
+    nine-requires
+    returns-4
+    ten-requires
+    returns-5
+    eleven-requires
+    returns-6
+    returns-7)

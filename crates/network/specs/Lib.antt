@@ -1,0 +1,5 @@
+pub mod Refusals
+pub mod ShortForms
+pub mod Verdict
+pub mod Tables
+pub mod Trials

@@ -1,0 +1,16 @@
+-- What the code asks of one node for refusal 9: proofs/ShortForms shows that it comes to what 01 says (`refusal9`).
+-- Assumes nothing.
+use mathlib.Core.Bool.{Bool, _||_, not, cond}
+use mathlib.Core.List.{List}
+use Prim.Native.Nat.{ℕ}
+use Rattle.finite.specs.Tests.{same}
+use Rattle.finite.specs.Range.{children}
+use Rattle.finite.specs.Tables.{at}
+use Rattle.network.specs.Refusals.{leafAt}
+
+-- a node with species k, which c nodes have
+unfoldable pub wrongSpecies : (leaf : Bool) (k c : ℕ) → Bool
+wrongSpecies leaf k c = cond leaf (same k 0 || not (same c 1)) (not (same k 0))
+
+unfoldable pub wrongSpeciesAt : ℕ → (principal secondary species : List ℕ) → ℕ → Bool
+wrongSpeciesAt n principal secondary species v = wrongSpecies (leafAt n principal secondary v) (at species v) (children n (at species) (at species v))

@@ -1,0 +1,83 @@
+-- Tables that the code fills (128 entries, f at 1..n and 0 elsewhere), and the marks by which it finds the tops.
+-- Assumes nothing.
+use mathlib.Core.Path.{_≡_}
+use mathlib.Core.Bool.{Bool, true, _&&_, _||_, not, cond, Bool·beq}
+use mathlib.Core.List.{List}
+use Prim.Native.Nat.{ℕ, suc, _≤_, _<_}
+use lib.ListN.{length, replicate}
+use Rattle.finite.specs.Tests.{same, under}
+use Rattle.finite.specs.Range.{some, count}
+use Rattle.finite.specs.Tables.{at, filled}
+use Rattle.topology.specs.Networks.{Network, Node, isReticulation}
+use Rattle.topology.specs.Switchings.{allPrincipal, above}
+use Rattle.topology.specs.Components.{isTop}
+use Rattle.topology.specs.Tables.{rankFrom}
+
+unfoldable pub zeros : List ℕ
+zeros = replicate 128 0
+
+unfoldable pub table : ℕ → (ℕ → ℕ) → List ℕ
+table n f = filled n zeros f
+
+-- the height of node v (`height` of topology) from its secondary parent and its stamp; 0 for no node
+unfoldable pub heightWith : (v secondary stamp : ℕ) → ℕ
+heightWith v secondary stamp = cond (same v 0) 0 (suc (rankFrom secondary stamp))
+
+unfoldable pub heightAt : (secondary stamp : List ℕ) → ℕ → ℕ
+heightAt secondary stamp v = heightWith v (at secondary v) (at stamp v)
+
+-- w is above just one of a and b in the principal tree: on the way between them, the node where they meet left out
+unfoldable pub between : Network → (a b w : ℕ) → Bool
+between N a b w = not (Bool·beq (above N allPrincipal w a) (above N allPrincipal w b))
+
+-- w is on the way between the two ends of the secondary arc into r
+unfoldable pub bridged : Network → (w r : ℕ) → Bool
+bridged N w r = isReticulation N r && between N r (N .secondary r) w
+
+-- the table marks w
+unfoldable pub marked : List ℕ → ℕ → Bool
+marked marks w = not (same (at marks w) 0)
+
+-- marks and then the way between x and y
+pub record MarkedWay (N : Network) (before after : List ℕ) (x y : ℕ) : Type 0 where
+  pub long : length after ≡ 128
+  pub at-each : (w : ℕ) → marked after w ≡ (marked before w || between N x y w)
+
+-- the ways of the reticulations 1..k
+pub record MarkedWays (N : Network) (marks : List ℕ) (k : ℕ) : Type 0 where
+  pub long : length marks ≡ 128
+  pub at-each : (w : ℕ) → marked marks w ≡ some k (bridged N w)
+
+-- what is marked is no top
+pub record NonTops (N : Network) (marks : List ℕ) : Type 0 where
+  pub at-each : (w : ℕ) → Node N w → isTop N w ≡ not (marked marks w)
+
+-- node r, whose component has the top `top`, is a reticulation of component c (`memberOf` of topology)
+unfoldable pub memberWith : (secondary top c : ℕ) → Bool
+memberWith secondary top c = not (same secondary 0) && same top c
+
+unfoldable pub memberAt : (secondary tops : List ℕ) → (c r : ℕ) → Bool
+memberAt secondary tops c r = memberWith (at secondary r) (at tops r) c
+
+-- how many reticulations component c has, by the tops (`members` of topology)
+unfoldable pub membersFrom : ℕ → (secondary tops : List ℕ) → ℕ → ℕ
+membersFrom n secondary tops c = count n (memberAt secondary tops c)
+
+-- a reticulation q of component c before r, and how many there are in r's component (`indexOf` of topology)
+unfoldable pub earlierAt : (secondary tops : List ℕ) → (c r q : ℕ) → Bool
+earlierAt secondary tops c r q = memberAt secondary tops c q && under q r
+
+unfoldable pub indexFrom : ℕ → (secondary tops : List ℕ) → ℕ → ℕ
+indexFrom n secondary tops r = count n (earlierAt secondary tops (at tops r) r)
+
+-- component c has more than 8 members by their table
+unfoldable pub crowdedFrom : List ℕ → ℕ → Bool
+crowdedFrom members c = under 8 (at members c)
+
+-- the height of any number: 1 past the nodes
+unfoldable pub heightIn : ℕ → (secondary stamp : List ℕ) → ℕ → ℕ
+heightIn n secondary stamp v = cond (under n v) 1 (heightAt secondary stamp v)
+
+-- stamps as six columns hold them
+pub record Dated (n : ℕ) (stamp : List ℕ) : Type 0 where
+  pub small : (v : ℕ) → v ≤ n → at stamp v < 1000000
