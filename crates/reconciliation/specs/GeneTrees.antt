@@ -26,6 +26,7 @@ pub record Rooted (G : GeneTree) : Type 0 where
   pub apart : (g : ℕ) → G .left g ≢ 0 → G .left g ≢ G .right g
   pub left-parent : (g : ℕ) → G .left g ≢ 0 → G .parent (G .left g) ≡ g
   pub right-parent : (g : ℕ) → G .left g ≢ 0 → G .parent (G .right g) ≡ g
+  pub parent-inner : (g : ℕ) → G .parent g ≢ 0 → G .left (G .parent g) ≢ 0
   pub is-child : (g : ℕ) → G .parent g ≢ 0 → (G .left (G .parent g) ≡ g) ⊎ (G .right (G .parent g) ≡ g)
 
 -- each leaf gene sits at a node

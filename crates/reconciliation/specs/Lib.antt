@@ -1,2 +1,3 @@
 pub mod GeneTrees
 pub mod Mapping
+pub mod Limits
