@@ -169,19 +169,35 @@ module _ (n m : ℕ) (parent species borne : List ℕ) (some : 1 ≤ m) (ok : ge
   unfolding geneTreeOf
   parent-some g d = let r = within-some m (at parent) g d in (r .0, r .1, within-in m (at parent) g (r .0) (r .1))
 
-  child-of : (g : ℕ) → G .parent g ≢ 0 → (G .left (G .parent g) ≡ g) ⊎ (G .right (G .parent g) ≡ g)
-  unfolding geneTreeOf
-  child-of g d =
-      let s = parent-some g d in
-      let p = at parent g in
-      let e : G .parent g ≡ p = s .2 in
-      rw e (byEq g 1
-      (λ q. absurd (d (e ∙ rw q (gene-first m parent (tree-gene m parent t 1 (omega arith) some)))))
-      (λ q. let b : p < g = gene-below m parent g (tree-gene m parent t g (s .0) (s .1)) q in
-      let l : 0 < p = gene-some m parent g (tree-gene m parent t g (s .0) (s .1)) q in
-      let z : leftOf m parent p ≢ 0 = λ z. child-counted m parent t p g (s .0) (s .1) refl (left-child m parent t p l (omega (arith, s .1)) z) in
-      rw (within-in m (leftOf m parent) p l (omega (arith, s .1)), within-in m (rightOf m parent) p l (omega (arith, s .1)))
-      (other-is m parent t p l (omega (arith, s .1)) z g (s .0) (s .1) refl)))
+  -- a gene's parent is a gene, and has children
+  module _ (g : ℕ) (d : G .parent g ≢ 0) where
+    gene : geneFits m parent g ≡ true
+    gene = tree-gene m parent t g (parent-some g d .0) (parent-some g d .1)
+
+    not-first : g ≢ 1
+    not-first q = d (parent-some g d .2 ∙ rw q (gene-first m parent (tree-gene m parent t 1 (omega arith) some)))
+
+    parent-low : 1 ≤ at parent g
+    parent-low = gene-some m parent g gene not-first
+
+    parent-high : at parent g ≤ m
+    parent-high = omega (arith, gene-below m parent g gene not-first, parent-some g d .1)
+
+    parent-left : leftOf m parent (at parent g) ≢ 0
+    parent-left z =
+        let s = parent-some g d in
+        child-counted m parent t (at parent g) g (s .0) (s .1) refl (left-child m parent t (at parent g) parent-low parent-high z)
+
+    parent-has : G .left (G .parent g) ≢ 0
+    unfolding geneTreeOf
+    parent-has = rw (parent-some g d .2, within-in m (leftOf m parent) (at parent g) parent-low parent-high) parent-left
+
+    child-of : (G .left (G .parent g) ≡ g) ⊎ (G .right (G .parent g) ≡ g)
+    unfolding geneTreeOf
+    child-of =
+        let s = parent-some g d in
+        rw (s .2, within-in m (leftOf m parent) (at parent g) parent-low parent-high, within-in m (rightOf m parent) (at parent g) parent-low parent-high)
+        (other-is m parent t (at parent g) parent-low parent-high parent-left g (s .0) (s .1) refl)
 
   -- verdict 0 gives a rooted tree
   pub rooted : Rooted G
@@ -198,6 +214,7 @@ module _ (n m : ℕ) (parent species borne : List ℕ) (some : 1 ≤ m) (ok : ge
     apart = λ g d e. omega (arith, left-is g d, right-is g d, right-after m parent t g (low g d) (high g d) (has g d));
     left-parent = λ g d. rw (left-is g d) (entry g d (leftOf m parent g) (omega (arith, has g d)) (left-in m parent t g (low g d) (high g d) (has g d)) (left-entry m parent t g (low g d) (high g d) (has g d)));
     right-parent = λ g d. rw (right-is g d) (entry g d (rightOf m parent g) (omega (arith, right-after m parent t g (low g d) (high g d) (has g d))) (right-in m parent t g (low g d) (high g d) (has g d)) (right-entry m parent t g (low g d) (high g d) (has g d)));
+    parent-inner = parent-has;
     is-child = child-of;
   }
     where
