@@ -233,7 +233,7 @@ module _ (n m : ℕ) (parent species borne : List ℕ) (some : 1 ≤ m) (ok : ge
   }
 
 -- the tables hold the gene tree's functions
-zeros-long : length zeros ≡ 128
+pub zeros-long : length zeros ≡ 128
 unfolding zeros
 zeros-long = length-replicate {A = ℕ} 128 0
 

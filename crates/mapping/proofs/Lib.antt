@@ -1,0 +1,5 @@
+pub mod Climbs
+pub mod ArcsOut
+pub mod Placing
+pub mod Mapped
+pub mod Adding
