@@ -3,3 +3,5 @@ pub mod ArcsOut
 pub mod Placing
 pub mod Mapped
 pub mod Adding
+pub mod Held
+pub mod Trials

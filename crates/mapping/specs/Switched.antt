@@ -5,13 +5,14 @@
 use mathlib.Core.Path.{_≡_}
 use mathlib.Core.Bool.{Bool, true, cond}
 use mathlib.Core.List.{List}
-use Prim.Native.Nat.{ℕ, _+_, _-_, _≤_}
+use Prim.Native.Nat.{ℕ, _+_, _-_, _≤_, _<_}
 use lib.ListN.{replicate}
 use Rattle.finite.specs.Tests.{same, tally}
 use Rattle.finite.specs.Range.{sum}
 use Rattle.finite.specs.Tables.{at, filled}
 use Rattle.topology.specs.Networks.{Network, Node, Sound}
-use Rattle.topology.specs.Switchings.{Switching, onSecondary, above}
+use Rattle.topology.specs.Switchings.{Switching, onSecondary, parent, above}
+use Rattle.topology.specs.Switchings as S
 use Rattle.gene_tree.specs.Genes.{zeros}
 
 unfoldable pub switchedOf : ℕ → (up on height : List ℕ) → Network
@@ -33,6 +34,15 @@ pub record Switched (n : ℕ) (up on height : List ℕ) : Type 0 where
   pub marks : (v : ℕ) → at on v ≡ tally (onSecondary (switchedOf n up on height) taken v)
   pub none : at height 0 ≡ 0
   pub known : (v : ℕ) → 1 ≤ v → v ≤ n → 1 ≤ at height v
+
+-- the tables hold network N under switching σ. Past the nodes no number has a rank, and no entry a height above 1
+pub record Held (N : Network) (σ : Switching) (n : ℕ) (up on height : List ℕ) : Type 0 where
+  pub size : N .size ≡ n
+  pub parents : (v : ℕ) → at up v ≡ parent N σ v
+  pub marks : (v : ℕ) → at on v ≡ tally (onSecondary N σ v)
+  pub heights : (v : ℕ) → v ≤ n → at height v ≡ S.height N v
+  pub past : (v : ℕ) → n < v → at height v ≤ 1
+  pub flat : (v : ℕ) → n < v → N .rank v ≡ 0
 
 -- node x is node b, or below it
 pub record Below (n : ℕ) (up on height : List ℕ) (b x : ℕ) : Type 0 where

@@ -51,7 +51,7 @@ pub fn setting_marks(
     c: usize,
     x: u32,
 ) -> [u32; 128]
-    requires { ⌜ (n ≤ 127) × Numbered c (now secondary) (now top) (now members) (now index) ⌝ }
+    requires { ⌜ (n ≤ 127) × Numbered n c (now secondary) (now top) (now members) (now index) ⌝ }
     ensures { λ r. ⌜ r ≡ markTable n x (at (now (members .entry)) c) c (now (secondary .entry)) (now (top .entry)) (now (index .entry)) ⌝ }
 {
     let k = members[c];

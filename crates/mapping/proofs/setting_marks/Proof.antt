@@ -1,3 +1,4 @@
+use native.Mathlib.Omega.{arith}
 use Prim.Native.Nat.{ℕ, _+_, _-_, _≤_}
 use mathlib.Core.Path.{_≡_}
 use Rattle.finite.specs.Tables.{at, filled}
@@ -62,7 +63,7 @@ element-copy-out-mark-of-3 c = search needs
 mark-of-requires : tie.Need-mark-of-requires Inv-loop μ-loop
 mark-of-requires c κs =
     let s = c .before .before .before .before .before .before .pre .1 in
-    (s .few, s .indexed (c .before .before .before .before .loop .v + 1))
+    (s .few, s .indexed (c .before .before .before .before .loop .v + 1) (omega arith) (omega arith))
 
 -- src/lib.rt:53:9
 mul-out : tie.Need-mul-out Inv-loop μ-loop
