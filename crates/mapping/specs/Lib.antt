@@ -1,0 +1,4 @@
+pub mod Switched
+pub mod Settings
+pub mod Genes
+pub mod Score

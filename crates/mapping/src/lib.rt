@@ -1,0 +1,592 @@
+// The LCA mapping under one switching. A switched network is lent as its number of nodes n and three tables: `up`, the parent whose arc is on;
+// `on`, 1 where that arc is secondary; `height`, which falls along every arc upwards. A gene tree is lent as its number of genes m and four tables:
+// `left` and `right`, the children; `leaf`, the node of a leaf gene; `mother`, the parent gene.
+ghost use mathlib.Core.Path.{_≡_};
+ghost use mathlib.Core.Logic.{_≢_};
+ghost use mathlib.Core.Bool.{true};
+ghost use Prim.Native.Nat.{ℕ, _+_, _-_, _^_, _≤_, _<_};
+ghost use Rattle.finite.specs.Tests.{same, tally};
+ghost use Rattle.finite.specs.Tables.{at};
+ghost use Rattle.topology.specs.Switchings.{lca};
+ghost use Rattle.mapping.specs.Switched.{switchedOf, taken, Switched, Below, weighs, leavingFrom, leavingTable, forkMark, forkTable, forksTable};
+ghost use Rattle.mapping.specs.Settings.{bitOf, markFrom, markAt, markTable, Numbered, upFrom, upAt, upTable};
+ghost use Rattle.mapping.specs.Genes.{genesOf, Family, Kin, Ready, Coming, placeAt, eventFrom, eventAt, leavesFrom, wayOf, betweenOf, lossesFrom, transfersAt, lossesAt, placeTable, eventTable, transferTable, lossTable};
+ghost use Rattle.mapping.specs.Score.{Cheap, Room, chargedBy, scoreOf};
+
+fn wide(x: u32) -> usize
+    ensures { λ r. ⌜ r ≡ x ⌝ }
+{
+    x as usize
+}
+
+// The bit of the reticulation with j lower-numbered ones in its component, of a setting's k bits: the highest is the lowest-numbered one's.
+fn bit(x: u32, k: u32, j: u32) -> u32
+    requires { ⌜ (j < k) × (k ≤ 8) ⌝ }
+    ensures { λ r. ⌜ r ≡ bitOf x k j ⌝ }
+{
+    (x >> (k - 1 - j)) & 1
+}
+
+// The mark of a node with secondary parent s in component t: its bit where it is a reticulation of component c, else 0.
+fn mark_of(x: u32, k: u32, c: usize, s: u32, t: u32, j: u32) -> u32
+    requires { ⌜ (k ≤ 8) × (s ≢ 0 → t ≡ c → j < k) ⌝ }
+    ensures { λ r. ⌜ r ≡ markFrom x k c s t j ⌝ }
+{
+    if s == 0 {
+        return 0;
+    }
+    if wide(t) != c {
+        return 0;
+    }
+    bit(x, k, j)
+}
+
+// The marks of the on secondary arcs under setting x of component c, all other components on principal.
+pub fn setting_marks(
+    n: usize,
+    secondary: &[u32; 128],
+    top: &[u32; 128],
+    members: &[u32; 128],
+    index: &[u32; 128],
+    c: usize,
+    x: u32,
+) -> [u32; 128]
+    requires { ⌜ (n ≤ 127) × Numbered n c (now secondary) (now top) (now members) (now index) ⌝ }
+    ensures { λ r. ⌜ r ≡ markTable n x (at (now (members .entry)) c) c (now (secondary .entry)) (now (top .entry)) (now (index .entry)) ⌝ }
+{
+    let k = members[c];
+    let mut out = [0u32; 128];
+    let mut v: usize = 0;
+    while v < n {
+        let w = v + 1;
+        out[w] = mark_of(x, k, c, secondary[w], top[w], index[w]);
+        v = w;
+    }
+    out
+}
+
+fn up_of(p: u32, s: u32, mark: u32) -> u32
+    ensures { λ r. ⌜ r ≡ upFrom p s mark ⌝ }
+{
+    if mark == 1 {
+        return s;
+    }
+    p
+}
+
+// The parents whose arcs are on.
+pub fn parents(
+    n: usize,
+    principal: &[u32; 128],
+    secondary: &[u32; 128],
+    on: &[u32; 128],
+) -> [u32; 128]
+    requires { ⌜ n ≤ 127 ⌝ }
+    ensures { λ r. ⌜ r ≡ upTable n (now (principal .entry)) (now (secondary .entry)) (now (on .entry)) ⌝ }
+{
+    let mut out = [0u32; 128];
+    let mut v: usize = 0;
+    while v < n {
+        let w = v + 1;
+        out[w] = up_of(principal[w], secondary[w], on[w]);
+        v = w;
+    }
+    out
+}
+
+// For each node, the sum of the weights, each 0 or 1, of the on arcs that leave it.
+pub fn leaving(n: usize, up: &[u32; 128], weight: &[u32; 128]) -> [u32; 128]
+    requires { ⌜ (n ≤ 127) × ((v : ℕ) → at (now up) v ≤ 127) × ((v : ℕ) → at (now weight) v ≤ 1) ⌝ }
+    ensures { λ r. ⌜ r ≡ leavingTable n (now (up .entry)) (now (weight .entry)) ⌝ }
+{
+    let mut out = [0u32; 128];
+    let mut v: usize = 0;
+    while v < n {
+        let w = v + 1;
+        let p = wide(up[w]);
+        out[p] = out[p] + weight[w];
+        v = w;
+    }
+    out[0] = 0;
+    out
+}
+
+// 1 where a node has two on arcs: the nodes that charge a loss when a gene passes them.
+fn fork_mark(arcs: u32) -> u32
+    ensures { λ r. ⌜ r ≡ tally (same arcs 2) ⌝ }
+{
+    if arcs == 2 {
+        return 1;
+    }
+    0
+}
+
+pub fn fork_marks(arcs: &[u32; 128]) -> [u32; 128]
+    ensures { λ r. ⌜ r ≡ forkTable (now (arcs .entry)) ⌝ }
+{
+    let mut out = [0u32; 128];
+    let mut v: usize = 0;
+    while v < 127 {
+        let w = v + 1;
+        out[w] = fork_mark(arcs[w]);
+        v = w;
+    }
+    out
+}
+
+// The nodes with two on arcs.
+pub fn forks(n: usize, up: &[u32; 128]) -> [u32; 128]
+    requires { ⌜ (n ≤ 127) × ((v : ℕ) → at (now up) v ≤ 127) ⌝ }
+    ensures { λ r. ⌜ r ≡ forksTable n (now (up .entry)) ⌝ }
+{
+    let ones = [1u32; 128];
+    let arcs = leaving(n, up, &ones);
+    fork_marks(&arcs)
+}
+
+// The lowest node from which x and y are reached along on arcs: the one that stands lower climbs.
+pub fn common(
+    n: usize,
+    up: &[u32; 128],
+    on: &[u32; 128],
+    height: &[u32; 128],
+    x: usize,
+    y: usize,
+) -> usize
+    requires { ⌜ Switched n (now up) (now on) (now height) ⌝ }
+    requires { ⌜ (x ≤ n) × (y ≤ n) ⌝ }
+    ensures { λ r. ⌜ (r ≡ lca (switchedOf n (now (up .entry)) (now (on .entry)) (now (height .entry))) taken x y) × (r ≤ n) ⌝ }
+{
+    let mut a = x;
+    let mut b = y;
+    while a != b {
+        if height[a] < height[b] {
+            b = wide(up[b]);
+        } else {
+            a = wide(up[a]);
+        }
+    }
+    a
+}
+
+// The sum of the marks, each 0 or 1, of the nodes from x up to b, b left out.
+fn way(
+    n: usize,
+    up: &[u32; 128],
+    on: &[u32; 128],
+    height: &[u32; 128],
+    marks: &[u32; 128],
+    b: usize,
+    x: usize,
+) -> u32
+    requires { ⌜ Switched n (now up) (now on) (now height) ⌝ }
+    requires { ⌜ ((k : ℕ) → at (now marks) k ≤ 1) × Below n (now up) (now on) (now height) b x ⌝ }
+    ensures { λ r. ⌜ r ≡ wayOf n (now (up .entry)) (now (on .entry)) (now (height .entry)) (now (marks .entry)) b x ⌝ }
+{
+    let mut a = x;
+    let mut r: u32 = 0;
+    while a != b {
+        r += marks[a];
+        a = wide(up[a]);
+    }
+    r
+}
+
+// The same for the nodes strictly between x and b.
+fn between(
+    n: usize,
+    up: &[u32; 128],
+    on: &[u32; 128],
+    height: &[u32; 128],
+    marks: &[u32; 128],
+    b: usize,
+    x: usize,
+) -> u32
+    requires { ⌜ Switched n (now up) (now on) (now height) ⌝ }
+    requires { ⌜ ((k : ℕ) → at (now marks) k ≤ 1) × Below n (now up) (now on) (now height) b x ⌝ }
+    ensures { λ r. ⌜ r ≡ betweenOf n (now (up .entry)) (now (on .entry)) (now (height .entry)) (now (marks .entry)) b x ⌝ }
+{
+    if x == b {
+        return 0;
+    }
+    way(n, up, on, height, marks, b, wide(up[x]))
+}
+
+// The place of gene g, from the places of its children.
+fn place_of(
+    n: usize,
+    up: &[u32; 128],
+    on: &[u32; 128],
+    height: &[u32; 128],
+    left: &[u32; 128],
+    right: &[u32; 128],
+    leaf: &[u32; 128],
+    place: &[u32; 128],
+    g: usize,
+) -> u32
+    requires { ⌜ Switched n (now up) (now on) (now height) ⌝ }
+    requires { ⌜ (g ≤ 127) × Ready n (now left) (now right) (now place) g ⌝ }
+    ensures { λ r. ⌜ r ≡ placeAt n (now (up .entry)) (now (on .entry)) (now (height .entry)) (now (left .entry)) (now (right .entry)) (now (leaf .entry)) (now (place .entry)) g ⌝ }
+{
+    if left[g] == 0 {
+        return leaf[g];
+    }
+    let x = wide(place[wide(left[g])]);
+    let y = wide(place[wide(right[g])]);
+    common(n, up, on, height, x, y) as u32
+}
+
+// The place of each gene, children before their parents.
+pub fn places(
+    n: usize,
+    up: &[u32; 128],
+    on: &[u32; 128],
+    height: &[u32; 128],
+    m: usize,
+    left: &[u32; 128],
+    right: &[u32; 128],
+    leaf: &[u32; 128],
+    mother: &[u32; 128],
+) -> [u32; 128]
+    requires { ⌜ Switched n (now up) (now on) (now height) ⌝ }
+    requires { ⌜ Family (switchedOf n (now up) (now on) (now height)) m (now left) (now right) (now leaf) (now mother) ⌝ }
+    ensures { λ r. ⌜ r ≡ placeTable n (now (up .entry)) (now (on .entry)) (now (height .entry)) m (now (left .entry)) (now (right .entry)) (now (leaf .entry)) (now (mother .entry)) ⌝ }
+{
+    let mut out = [0u32; 128];
+    let mut g = m;
+    while 0 < g {
+        let p = place_of(n, up, on, height, left, right, leaf, &out, g);
+        out[g] = p;
+        g -= 1;
+    }
+    out
+}
+
+// The event of an inner gene at p whose children sit at pl and pr, with so many on secondary arcs leaving p.
+fn event_of(p: u32, pl: u32, pr: u32, sent: u32) -> u32
+    ensures { λ r. ⌜ r ≡ eventFrom p pl pr sent ⌝ }
+{
+    if pl == p {
+        return 2;
+    }
+    if pr == p {
+        return 2;
+    }
+    if sent == 0 {
+        return 1;
+    }
+    3
+}
+
+fn event_at(
+    left: &[u32; 128],
+    right: &[u32; 128],
+    place: &[u32; 128],
+    sent: &[u32; 128],
+    g: usize,
+) -> u32
+    requires { ⌜ (g ≤ 127) × Kin (now left) (now right) g × (at (now place) g ≤ 127) ⌝ }
+    ensures { λ r. ⌜ r ≡ eventAt (now (left .entry)) (now (right .entry)) (now (place .entry)) (now (sent .entry)) g ⌝ }
+{
+    if left[g] == 0 {
+        return 0;
+    }
+    let l = wide(left[g]);
+    let r = wide(right[g]);
+    let p = wide(place[g]);
+    event_of(place[g], place[l], place[r], sent[p])
+}
+
+// The event of each gene, from the places and from how many on secondary arcs leave each node.
+pub fn events(
+    n: usize,
+    up: &[u32; 128],
+    on: &[u32; 128],
+    height: &[u32; 128],
+    m: usize,
+    left: &[u32; 128],
+    right: &[u32; 128],
+    leaf: &[u32; 128],
+    mother: &[u32; 128],
+    place: &[u32; 128],
+    sent: &[u32; 128],
+) -> [u32; 128]
+    requires { ⌜ Switched n (now up) (now on) (now height) ⌝ }
+    requires { ⌜ Family (switchedOf n (now up) (now on) (now height)) m (now left) (now right) (now leaf) (now mother) ⌝ }
+    requires { ⌜ (now place ≡ placeTable n (now up) (now on) (now height) m (now left) (now right) (now leaf) (now mother)) × (now sent ≡ leavingTable n (now up) (now on)) ⌝ }
+    ensures { λ r. ⌜ r ≡ eventTable n (now (up .entry)) (now (on .entry)) (now (height .entry)) m (now (left .entry)) (now (right .entry)) (now (leaf .entry)) (now (mother .entry)) ⌝ }
+{
+    let mut out = [0u32; 128];
+    let mut g: usize = 0;
+    while g < m {
+        let w = g + 1;
+        out[w] = event_at(left, right, place, sent, w);
+        g = w;
+    }
+    out
+}
+
+// The transfers on the way of gene g: the on secondary arcs from its parent gene's place.
+fn transfers_of(
+    n: usize,
+    up: &[u32; 128],
+    on: &[u32; 128],
+    height: &[u32; 128],
+    mother: &[u32; 128],
+    place: &[u32; 128],
+    g: usize,
+) -> u32
+    requires { ⌜ Switched n (now up) (now on) (now height) ⌝ }
+    requires { ⌜ (g ≤ 127) × Coming n (now up) (now on) (now height) (now mother) (now place) g ⌝ }
+    ensures { λ r. ⌜ r ≡ transfersAt n (now (up .entry)) (now (on .entry)) (now (height .entry)) (now (mother .entry)) (now (place .entry)) g ⌝ }
+{
+    let q = wide(mother[g]);
+    if q == 0 {
+        return 0;
+    }
+    way(n, up, on, height, on, wide(place[q]), wide(place[g]))
+}
+
+// One more loss where the parent gene, at b, is a duplication and the gene, at x, sits elsewhere.
+fn leaves(event: u32, b: usize, x: usize) -> u32
+    ensures { λ r. ⌜ (r ≡ leavesFrom event b x) × (r ≤ 1) ⌝ }
+{
+    if event != 2 {
+        return 0;
+    }
+    if x == b {
+        return 0;
+    }
+    1
+}
+
+// The losses on the way from b, where the parent gene sits with its event, to x.
+fn losses_from(
+    n: usize,
+    up: &[u32; 128],
+    on: &[u32; 128],
+    height: &[u32; 128],
+    forks: &[u32; 128],
+    event: u32,
+    b: usize,
+    x: usize,
+) -> u32
+    requires { ⌜ Switched n (now up) (now on) (now height) ⌝ }
+    requires { ⌜ ((k : ℕ) → at (now forks) k ≤ 1) × Below n (now up) (now on) (now height) b x ⌝ }
+    ensures { λ r. ⌜ r ≡ lossesFrom n (now (up .entry)) (now (on .entry)) (now (height .entry)) (now (forks .entry)) event b x ⌝ }
+{
+    between(n, up, on, height, forks, b, x) + leaves(event, b, x)
+}
+
+// The losses on the way of gene g.
+fn losses_of(
+    n: usize,
+    up: &[u32; 128],
+    on: &[u32; 128],
+    height: &[u32; 128],
+    forks: &[u32; 128],
+    mother: &[u32; 128],
+    place: &[u32; 128],
+    event: &[u32; 128],
+    g: usize,
+) -> u32
+    requires { ⌜ Switched n (now up) (now on) (now height) ⌝ }
+    requires { ⌜ (g ≤ 127) × ((k : ℕ) → at (now forks) k ≤ 1) × Coming n (now up) (now on) (now height) (now mother) (now place) g ⌝ }
+    ensures { λ r. ⌜ r ≡ lossesAt n (now (up .entry)) (now (on .entry)) (now (height .entry)) (now (forks .entry)) (now (mother .entry)) (now (place .entry)) (now (event .entry)) g ⌝ }
+{
+    let q = wide(mother[g]);
+    if q == 0 {
+        return 0;
+    }
+    losses_from(
+        n,
+        up,
+        on,
+        height,
+        forks,
+        event[q],
+        wide(place[q]),
+        wide(place[g]),
+    )
+}
+
+// The transfers of each gene, from the places.
+pub fn transfers(
+    n: usize,
+    up: &[u32; 128],
+    on: &[u32; 128],
+    height: &[u32; 128],
+    m: usize,
+    left: &[u32; 128],
+    right: &[u32; 128],
+    leaf: &[u32; 128],
+    mother: &[u32; 128],
+    place: &[u32; 128],
+) -> [u32; 128]
+    requires { ⌜ Switched n (now up) (now on) (now height) ⌝ }
+    requires { ⌜ Family (switchedOf n (now up) (now on) (now height)) m (now left) (now right) (now leaf) (now mother) ⌝ }
+    requires { ⌜ now place ≡ placeTable n (now up) (now on) (now height) m (now left) (now right) (now leaf) (now mother) ⌝ }
+    ensures { λ r. ⌜ r ≡ transferTable n (now (up .entry)) (now (on .entry)) (now (height .entry)) m (now (left .entry)) (now (right .entry)) (now (leaf .entry)) (now (mother .entry)) ⌝ }
+{
+    let mut out = [0u32; 128];
+    let mut g: usize = 0;
+    while g < m {
+        let w = g + 1;
+        out[w] = transfers_of(n, up, on, height, mother, place, w);
+        g = w;
+    }
+    out
+}
+
+// The losses of each gene, from the places, the events and the nodes with two on arcs.
+pub fn losses(
+    n: usize,
+    up: &[u32; 128],
+    on: &[u32; 128],
+    height: &[u32; 128],
+    m: usize,
+    left: &[u32; 128],
+    right: &[u32; 128],
+    leaf: &[u32; 128],
+    mother: &[u32; 128],
+    forks: &[u32; 128],
+    place: &[u32; 128],
+    event: &[u32; 128],
+) -> [u32; 128]
+    requires { ⌜ Switched n (now up) (now on) (now height) ⌝ }
+    requires { ⌜ Family (switchedOf n (now up) (now on) (now height)) m (now left) (now right) (now leaf) (now mother) ⌝ }
+    requires { ⌜ (now forks ≡ forksTable n (now up)) × (now place ≡ placeTable n (now up) (now on) (now height) m (now left) (now right) (now leaf) (now mother)) × (now event ≡ eventTable n (now up) (now on) (now height) m (now left) (now right) (now leaf) (now mother)) ⌝ }
+    ensures { λ r. ⌜ r ≡ lossTable n (now (up .entry)) (now (on .entry)) (now (height .entry)) m (now (left .entry)) (now (right .entry)) (now (leaf .entry)) (now (mother .entry)) ⌝ }
+{
+    let mut out = [0u32; 128];
+    let mut g: usize = 0;
+    while g < m {
+        let w = g + 1;
+        out[w] = losses_of(n, up, on, height, forks, mother, place, event, w);
+        g = w;
+    }
+    out
+}
+
+// What a duplication, a transfer and a loss cost.
+pub struct UnitCosts {
+    pub duplication: u32,
+    pub transfer: u32,
+    pub loss: u32,
+}
+
+// The events of a gene tree under a switching, and their cost.
+pub struct Score {
+    pub duplications: u32,
+    pub transfers: u32,
+    pub losses: u32,
+    pub cost: u32,
+}
+
+// One gene more: its event says which count is raised and what is charged at the gene, its transfers and losses are charged on its way.
+fn charge(u: UnitCosts, s: Score, event: u32, transfers: u32, losses: u32) -> Score
+    requires { ⌜ Cheap u × Room s × (transfers ≤ 127) × (losses ≤ 127) ⌝ }
+    ensures { λ r. ⌜ r ≡ chargedBy u s event transfers losses ⌝ }
+{
+    let mut r = s;
+    r.transfers += transfers;
+    r.losses += losses;
+    r.cost += u.transfer * transfers + u.loss * losses;
+    match event {
+        2 => {
+            r.duplications += 1;
+            r.cost += u.duplication;
+            r
+        }
+        _ => r,
+    }
+}
+
+// The score from the tables of the genes.
+fn totals(
+    n: usize,
+    up: &[u32; 128],
+    on: &[u32; 128],
+    height: &[u32; 128],
+    m: usize,
+    left: &[u32; 128],
+    right: &[u32; 128],
+    leaf: &[u32; 128],
+    mother: &[u32; 128],
+    forks: &[u32; 128],
+    place: &[u32; 128],
+    event: &[u32; 128],
+    u: UnitCosts,
+) -> Score
+    requires { ⌜ Switched n (now up) (now on) (now height) ⌝ }
+    requires { ⌜ Family (switchedOf n (now up) (now on) (now height)) m (now left) (now right) (now leaf) (now mother) ⌝ }
+    requires { ⌜ (now forks ≡ forksTable n (now up)) × (now place ≡ placeTable n (now up) (now on) (now height) m (now left) (now right) (now leaf) (now mother)) × (now event ≡ eventTable n (now up) (now on) (now height) m (now left) (now right) (now leaf) (now mother)) × Cheap u ⌝ }
+    ensures { λ r. ⌜ r ≡ scoreOf (switchedOf n (now (up .entry)) (now (on .entry)) (now (height .entry))) (genesOf m (now (left .entry)) (now (right .entry)) (now (leaf .entry)) (now (mother .entry))) u taken ⌝ }
+{
+    let mut s = Score {
+        duplications: 0,
+        transfers: 0,
+        losses: 0,
+        cost: 0,
+    };
+    let mut g: usize = 0;
+    while g < m {
+        let w = g + 1;
+        let t = transfers_of(n, up, on, height, mother, place, w);
+        let l = losses_of(n, up, on, height, forks, mother, place, event, w);
+        s = charge(u, s, event[w], t, l);
+        g = w;
+    }
+    s
+}
+
+// The score of the gene tree under the switching.
+pub fn evaluate(
+    n: usize,
+    up: &[u32; 128],
+    on: &[u32; 128],
+    height: &[u32; 128],
+    m: usize,
+    left: &[u32; 128],
+    right: &[u32; 128],
+    leaf: &[u32; 128],
+    mother: &[u32; 128],
+    u: UnitCosts,
+) -> Score
+    requires { ⌜ Switched n (now up) (now on) (now height) ⌝ }
+    requires { ⌜ Family (switchedOf n (now up) (now on) (now height)) m (now left) (now right) (now leaf) (now mother) ⌝ }
+    requires { ⌜ Cheap u ⌝ }
+    ensures { λ r. ⌜ r ≡ scoreOf (switchedOf n (now (up .entry)) (now (on .entry)) (now (height .entry))) (genesOf m (now (left .entry)) (now (right .entry)) (now (leaf .entry)) (now (mother .entry))) u taken ⌝ }
+{
+    let sent = leaving(n, up, on);
+    let fork = forks(n, up);
+    let place = places(n, up, on, height, m, left, right, leaf, mother);
+    let event = events(
+        n,
+        up,
+        on,
+        height,
+        m,
+        left,
+        right,
+        leaf,
+        mother,
+        &place,
+        &sent,
+    );
+    totals(
+        n,
+        up,
+        on,
+        height,
+        m,
+        left,
+        right,
+        leaf,
+        mother,
+        &fork,
+        &place,
+        &event,
+        u,
+    )
+}
