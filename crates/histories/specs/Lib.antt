@@ -1,0 +1,4 @@
+pub mod Histories
+pub mod Grades
+pub mod Words
+pub mod Families
