@@ -10,7 +10,7 @@ use native.Mathlib.Omega.{arith}
 use Rattle.finite.specs.Tests.{same}
 use Rattle.finite.proofs.Tests.{is-same, same-is}
 use Rattle.finite.proofs.Cases.{byEq}
-use Rattle.histories.specs.Histories.{Out, leaf, one, two, mixed, Gene, tip, pair, Family, Cost, Least, attained, nothing, LeastOverall, both, resting, parting, moving, ending, clauses, best, least, leastOver, overall}
+use Rattle.histories.specs.Histories.{Out, leaf, one, two, mixed, Gene, tip, pair, Family, Cost, Least, attained, nothing, LeastOverall, both, resting, parting, moving, ending, stepping, clauses, best, least, leastOver, overall}
 use Rattle.histories.specs.Histories.{History, rest, duplicate, speciate, speciateLose, transferStay, transferPart, transferLose, pass, cost}
 use Rattle.histories.specs.Grades.{Leads, Graded}
 use Rattle.histories.proofs.Costs.{AtMost, within, Attains, nowhere, somewhere, left, right, at-then, at-both, meet, from-both, from-then, convey, reach, found, low, unique}
@@ -48,7 +48,7 @@ module _ (F : Family) where
         (meet (event transfer g v a y b v (λ h i. (transferStay (inl k) e h i, refl))) (event transfer g v b y a v (λ h i. (transferStay (inr k) e h i, refl))))
         (meet (event transfer g v a y b x (λ h i. (transferPart (inl k) e h i, refl))) (event transfer g v b y a x (λ h i. (transferPart (inr k) e h i, refl))))
 
-    sound-ending : (g v : ℕ) (K : Gene) → gene g ≡ K → Attains (Costs g v) (ending F W K v (out v))
+    sound-ending : (g v : ℕ) (K : Gene) → gene g ≡ K → Attains (Costs g v) (ending duplication transfer W K v (out v))
     unfolding ending cost
     sound-ending g v (tip s) k = sound-resting g v s k (out v) refl
     sound-ending g v (pair a b) k = meet (event duplication g v a v b v (λ h i. (duplicate k h i, refl))) (sound-parting g v a b k (out v) refl)
@@ -56,12 +56,12 @@ module _ (F : Family) where
     sound-moving : (g v : ℕ) (A : Out) → out v ≡ A → Attains (Costs g v) (moving transfer loss (W g) A)
     unfolding moving cost
     sound-moving g v (leaf t) e = nowhere
-    sound-moving g v (one x) e = convey (sound g x) (λ c (h, p). (pass (inl e) h, p))
+    sound-moving g v (one x) e = from-then 0 (sound g x) (λ c (h, p). (pass (inl e) h, omega arith))
     sound-moving g v (two x y) e = meet (from-then loss (sound g x) (λ c (h, p). (speciateLose (inl e) h, cc))) (from-then loss (sound g y) (λ c (h, p). (speciateLose (inr e) h, cc)))
-    sound-moving g v (mixed x y) e = meet (from-then (transfer + loss) (sound g y) (λ c (h, p). (transferLose e h, cc))) (convey (sound g x) (λ c (h, p). (pass (inr (y, e)) h, p)))
+    sound-moving g v (mixed x y) e = meet (from-then (transfer + loss) (sound g y) (λ c (h, p). (transferLose e h, cc))) (from-then 0 (sound g x) (λ c (h, p). (pass (inr (y, e)) h, omega arith)))
 
     sound-clauses : (g v : ℕ) → Attains (Costs g v) (clauses F W g v)
-    unfolding clauses
+    unfolding clauses stepping
     sound-clauses g v = meet (sound-ending g v (gene g) refl) (sound-moving g v (out v) refl)
 
   -- a finite cost is that of a history
@@ -105,7 +105,7 @@ module _ (F : Family) where
 
     -- no history costs less
     complete : (k : ℕ) {g v : ℕ} → depth g v < k → (h : History F g v) → AtMost (cost F h) (best F k g v)
-    unfolding best clauses ending resting parting moving cost depth Lower
+    unfolding best clauses stepping ending resting parting moving cost depth Lower
     complete zero p h = absurd (omega arith)
     complete (suc k) p (rest {s} e a) = left _ (rw (e, a) (same-species s))
     complete (suc k) p (duplicate e h i) =
@@ -132,8 +132,8 @@ module _ (F : Family) where
         let l = lower e in let m = mixed-ends a in
         left _ (rw (e, a) (right _ (right _ (right _ (at-both transfer (complete k (omega arith) h) (complete k (omega arith) i) (omega arith))))))
     complete (suc k) p (transferLose a h) = let m = mixed-ends a in right _ (rw a (left _ (at-then (transfer + loss) (complete k (omega arith) h) (omega arith))))
-    complete (suc k) p (pass (inl a) h) = let m = one-end a in right _ (rw a (complete k (omega arith) h))
-    complete (suc k) p (pass (inr y) h) = let m = mixed-ends (y .1) in right _ (rw (y .1) (right _ (complete k (omega arith) h)))
+    complete (suc k) p (pass (inl a) h) = let m = one-end a in right _ (rw a (at-then 0 (complete k (omega arith) h) (omega arith)))
+    complete (suc k) p (pass (inr y) h) = let m = mixed-ends (y .1) in right _ (rw (y .1) (right _ (at-then 0 (complete k (omega arith) h) (omega arith))))
 
     enough : (g v : ℕ) → depth g v < suc (F .genes + F .nodes)
     unfolding depth

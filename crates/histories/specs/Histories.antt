@@ -130,17 +130,21 @@ parting t A B v (mixed x y) = (both t (A y) (B v) ⊓ both t (B y) (A v)) ⊓ (b
 -- a gene, whose row is G, moves on, for a transfer cost t and a loss cost l
 unfoldable pub moving : ℕ → ℕ → (G : ℕ → Cost) → Out → Cost
 moving t l G (leaf s) = none
-moving t l G (one x) = G x
+moving t l G (one x) = then 0 (G x)
 moving t l G (two x y) = then l (G x) ⊓ then l (G y)
-moving t l G (mixed x y) = then (t + l) (G y) ⊓ G x
+moving t l G (mixed x y) = then (t + l) (G y) ⊓ then 0 (G x)
 
--- a gene ends at v: it rests, or its children start there, or they part
-unfoldable pub ending : Family → (W : ℕ → ℕ → Cost) → Gene → ℕ → Out → Cost
-ending F W (tip s) v o = resting s o
-ending F W (pair a b) v o = both (F .duplication) (W a v) (W b v) ⊓ parting (F .transfer) (W a) (W b) v o
+-- a gene ends at v, for a duplication cost d: it rests, or its children start there, or they part
+unfoldable pub ending : ℕ → ℕ → (W : ℕ → ℕ → Cost) → Gene → ℕ → Out → Cost
+ending d t W (tip s) v o = resting s o
+ending d t W (pair a b) v o = both d (W a v) (W b v) ⊓ parting t (W a) (W b) v o
+
+-- a gene g of this kind at a node v with these arcs out ends there or moves on
+unfoldable pub stepping : (d t l : ℕ) → (W : ℕ → ℕ → Cost) → ℕ → Gene → ℕ → Out → Cost
+stepping d t l W g k v o = ending d t W k v o ⊓ moving t l (W g) o
 
 unfoldable pub clauses : Family → (W : ℕ → ℕ → Cost) → ℕ → ℕ → Cost
-clauses F W g v = ending F W (F .gene g) v (F .out v) ⊓ moving (F .transfer) (F .loss) (W g) (F .out v)
+clauses F W g v = stepping (F .duplication) (F .transfer) (F .loss) W g (F .gene g) v (F .out v)
 
 -- the least cost of the histories of at most k steps
 unfoldable pub best : Family → ℕ → ℕ → ℕ → Cost
@@ -162,5 +166,5 @@ overall F = leastOver (F .nodes) (least F 1)
 
 -- whoever unfolds this unfolds all of this file
 unfoldable pub open-Histories : Unit {0}
-unfolding cost _⊓_ _⊕_ then both resting parting moving ending clauses best least leastOver overall
+unfolding cost _⊓_ _⊕_ then both resting parting moving ending stepping clauses best least leastOver overall
 open-Histories = tt

@@ -1,11 +1,13 @@
 -- Least costs as the words of the scratch (01: "scratch word (g − 1) × n + (v − 1) holds the least cost for gene g starting at node v, or
 -- 4,294,967,295 if no history exists").
 -- Assumes nothing.
+use mathlib.Core.Path.{_≡_}
+use mathlib.Core.Logic.{_≢_}
 use mathlib.Core.Bool.{cond}
 use mathlib.Core.Option.{Option, none, some}
 use mathlib.Core.List.{List, [], _∷_}
-use Prim.Native.Nat.{ℕ, zero, suc, _+_, _-_, _*_, _/_, _%_}
-use lib.ListN.{getD}
+use Prim.Native.Nat.{ℕ, zero, suc, _+_, _-_, _*_, _/_, _%_, _≤_, _<_}
+use lib.ListN.{getD, length}
 use Rattle.finite.specs.Tests.{same}
 use Rattle.histories.specs.Histories.{Family, Cost, least}
 
@@ -28,6 +30,40 @@ cell n g v = (g - 1) * n + (v - 1)
 -- the costs that the words s hold for gene g, by node
 unfoldable pub row : (n : ℕ) → List ℕ → ℕ → ℕ → Cost
 row n s g v = costOf (getD s (cell n g v) 0)
+
+-- a cost that may enter a sum: two of them, with what an event costs, stay below the word for no history
+unfoldable pub Small : Cost → Type 0
+Small none = Unit {0}
+Small (some c) = c ≤ 1000000000
+
+-- the words s hold a small cost for gene g and node v
+pub record Cell (n : ℕ) (s : List ℕ) (g v : ℕ) : Type 0 where
+  pub gene-low : 1 ≤ g
+  pub node-low : 1 ≤ v
+  pub inside : cell n g v < length s
+  pub small : Small (row n s g v)
+
+-- of gene g the words s hold a small cost at each node that the arcs out lead to, x and y by principal arcs and z by a secondary one, 0 for none
+pub record Readable (n : ℕ) (s : List ℕ) (g x y z : ℕ) : Type 0 where
+  pub first : x ≢ 0 → Cell n s g x
+  pub second : x ≢ 0 → y ≢ 0 → Cell n s g y
+  pub other : x ≢ 0 → y ≡ 0 → z ≢ 0 → Cell n s g z
+
+-- the same of the two children a and b of a gene, 0 for none, and at the node v too
+pub record Descendants (n : ℕ) (s : List ℕ) (a b v x y z : ℕ) : Type 0 where
+  pub left-here : a ≢ 0 → Cell n s a v
+  pub right-here : a ≢ 0 → Cell n s b v
+  pub left : a ≢ 0 → Readable n s a x y z
+  pub right : a ≢ 0 → Readable n s b x y z
+
+-- the rows of the genes above k hold their least costs
+pub record Rows (F : Family) (s : List ℕ) (k : ℕ) : Type 0 where
+  pub holds : (g v : ℕ) → k < g → g ≤ F .genes → 1 ≤ v → v ≤ F .nodes → row (F .nodes) s g v ≡ least F g v
+
+-- the words t are the words s, but for the table: "other words .. keep what they held"
+pub record Kept (F : Family) (s t : List ℕ) : Type 0 where
+  pub long : length t ≡ length s
+  pub rest : (i : ℕ) → F .genes * F .nodes ≤ i → getD t i 0 ≡ getD s i 0
 
 -- f a, f (a + 1), .., k of them
 unfoldable pub listed : (ℕ → ℕ) → ℕ → ℕ → List ℕ
