@@ -4,3 +4,6 @@ pub mod Bound
 pub mod Words
 pub mod Cells
 pub mod Clauses
+pub mod Filling
+pub mod Children
+pub mod Orders

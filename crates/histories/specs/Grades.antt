@@ -37,12 +37,19 @@ pub record Limits (F : Family) : Type 0 where
   pub transfer-low : F .transfer ≤ 99
   pub loss-low : F .loss ≤ 99
 
--- a table of nodes that comes to each node v, at place v, after the nodes that the arcs out of v lead to
+-- a table of nodes that comes to each node v once, at place v, after the nodes that the arcs out of v lead to
 pub record Schedule (F : Family) (order : List ℕ) : Type 0 where
-  pub entry-low : (i : ℕ) → 1 ≤ i → i ≤ F .nodes → 1 ≤ at order i
-  pub entry-high : (i : ℕ) → 1 ≤ i → i ≤ F .nodes → at order i ≤ F .nodes
   pub place : ℕ → ℕ
   pub place-low : (v : ℕ) → 1 ≤ v → v ≤ F .nodes → 1 ≤ place v
   pub place-high : (v : ℕ) → 1 ≤ v → v ≤ F .nodes → place v ≤ F .nodes
   pub visits : (v : ℕ) → 1 ≤ v → v ≤ F .nodes → at order (place v) ≡ v
+  pub placed : (i : ℕ) → 1 ≤ i → i ≤ F .nodes → place (at order i) ≡ i
+  pub entry-low : (i : ℕ) → 1 ≤ i → i ≤ F .nodes → 1 ≤ at order i
+  pub entry-high : (i : ℕ) → 1 ≤ i → i ≤ F .nodes → at order i ≤ F .nodes
   pub sooner : (v : ℕ) → 1 ≤ v → v ≤ F .nodes → Leads (λ x. (1 ≤ x) × (x ≤ F .nodes) × (place x < place v)) (F .out v)
+
+-- all of this, for a family and an order of its nodes
+pub record Prepared (F : Family) (order : List ℕ) : Type 0 where
+  pub graded : Graded F
+  pub limits : Limits F
+  pub schedule : Schedule F order

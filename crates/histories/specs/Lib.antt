@@ -2,3 +2,4 @@ pub mod Histories
 pub mod Grades
 pub mod Words
 pub mod Families
+pub mod Orders

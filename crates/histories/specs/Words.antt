@@ -9,6 +9,7 @@ use mathlib.Core.List.{List, [], _∷_}
 use Prim.Native.Nat.{ℕ, zero, suc, _+_, _-_, _*_, _/_, _%_, _≤_, _<_}
 use lib.ListN.{getD, length}
 use Rattle.finite.specs.Tests.{same}
+use Rattle.finite.specs.Tables.{at}
 use Rattle.histories.specs.Histories.{Family, Cost, least}
 
 -- the word that stands for no history
@@ -59,6 +60,11 @@ pub record Descendants (n : ℕ) (s : List ℕ) (a b v x y z : ℕ) : Type 0 whe
 -- the rows of the genes above k hold their least costs
 pub record Rows (F : Family) (s : List ℕ) (k : ℕ) : Type 0 where
   pub holds : (g v : ℕ) → k < g → g ≤ F .genes → 1 ≤ v → v ≤ F .nodes → row (F .nodes) s g v ≡ least F g v
+
+-- and the row of gene g does at the first i nodes of the order
+pub record Partly (F : Family) (order s : List ℕ) (g i : ℕ) : Type 0 where
+  pub above : Rows F s g
+  pub done : (j : ℕ) → 1 ≤ j → j ≤ i → row (F .nodes) s g (at order j) ≡ least F g (at order j)
 
 -- the words t are the words s, but for the table: "other words .. keep what they held"
 pub record Kept (F : Family) (s t : List ℕ) : Type 0 where

@@ -1,15 +1,29 @@
 // The network as a whole: the least cost over all histories, for each gene and starting node.
 ghost use mathlib.Core.Path.{_≡_};
 ghost use mathlib.Core.Logic.{_≢_};
-ghost use Prim.Native.Nat.{ℕ, _+_, _*_, _≤_, _<_};
+ghost use Prim.Native.Nat.{ℕ, _+_, _-_, _*_, _≤_, _<_};
 ghost use lib.ListN.{length};
 ghost use Rattle.finite.specs.Tables.{at};
-ghost use Rattle.histories.specs.Histories.{_⊓_, then, both, resting, parting, moving, ending, stepping};
-ghost use Rattle.histories.specs.Words.{costOf, row, Small, Cell, Readable, Descendants};
-ghost use Rattle.histories.specs.Families.{outBy, geneBy};
+ghost use Rattle.finite.specs.Tests.{tally};
+ghost use Rattle.topology.specs.Tables.{rankFrom};
+ghost use Rattle.histories.specs.Histories.{_⊓_, then, both, resting, parting, moving, ending, stepping, leastOver};
+ghost use Rattle.histories.specs.Words.{costOf, row, Small, Cell, Readable, Descendants, Rows, Kept};
+ghost use Rattle.histories.specs.Grades.{Prepared};
+ghost use Rattle.histories.specs.Orders.{ranksOf, earlier, placeOf, Placed};
+ghost use Rattle.histories.specs.Families.{outBy, geneBy, childAfter, firstChildren, secondChildren};
+ghost use Rattle.whole_network.specs.Headers.{familyIn};
 
 // The word that stands for no history.
 const NONE: u32 = 4294967295;
+
+// How many nodes and genes, and the costs of a duplication, a transfer and a loss.
+pub struct Header {
+    pub nodes: usize,
+    pub genes: usize,
+    pub duplication: u32,
+    pub transfer: u32,
+    pub loss: u32,
+}
 
 fn wide(x: u32) -> usize
     ensures { λ r. ⌜ r ≡ x ⌝ }
@@ -220,4 +234,258 @@ fn word_of(
         ended(scratch, n, a, b, kind, species, v, x, y, z, d, t),
         moved(scratch, n, g, x, y, z, t, l),
     )
+}
+
+// The same from tables: a node's first and second child by a principal arc, its child by a secondary arc and its species; a gene's children and species.
+fn word_at(
+    scratch: &[u32],
+    h: Header,
+    g: usize,
+    v: usize,
+    first: &[u32; 128],
+    second: &[u32; 128],
+    other: &[u32; 128],
+    species: &[u32; 128],
+    left: &[u32; 128],
+    right: &[u32; 128],
+    kind: &[u32; 128],
+) -> u32
+    requires { ⌜ (h .duplication ≤ 99) × (h .transfer ≤ 99) × (h .loss ≤ 99) × (g ≤ 127) × (v ≤ 127) ⌝ }
+    requires { ⌜ Readable (h .nodes) (now scratch) g (at (now first) v) (at (now second) v) (at (now other) v) ⌝ }
+    requires { ⌜ Descendants (h .nodes) (now scratch) (at (now left) g) (at (now right) g) v (at (now first) v) (at (now second) v) (at (now other) v) ⌝ }
+    ensures { λ r. ⌜ costOf r ≡ stepping (h .duplication) (h .transfer) (h .loss) (row (h .nodes) (now (scratch .entry))) g (geneBy (at (now (left .entry)) g) (at (now (right .entry)) g) (at (now (kind .entry)) g)) v (outBy (at (now (first .entry)) v) (at (now (second .entry)) v) (at (now (other .entry)) v) (at (now (species .entry)) v)) ⌝ }
+{
+    let a = wide(left[g]);
+    let b = wide(right[g]);
+    let x = wide(first[v]);
+    let y = wide(second[v]);
+    let z = wide(other[v]);
+    word_of(
+        scratch,
+        h.nodes,
+        g,
+        a,
+        b,
+        kind[g],
+        species[v],
+        v,
+        x,
+        y,
+        z,
+        h.duplication,
+        h.transfer,
+        h.loss,
+    )
+}
+
+// The row of gene g, from the rows of its children, the nodes in an order in which arcs out come first.
+fn fill_row(
+    h: Header,
+    g: usize,
+    order: &[u32; 128],
+    first: &[u32; 128],
+    second: &[u32; 128],
+    other: &[u32; 128],
+    species: &[u32; 128],
+    left: &[u32; 128],
+    right: &[u32; 128],
+    kind: &[u32; 128],
+    scratch: &mut [u32],
+)
+    requires { ⌜ Prepared (familyIn h (now first) (now second) (now other) (now species) (now left) (now right) (now kind)) (now order) ⌝ }
+    requires { ⌜ (1 ≤ g) × (g ≤ h .genes) × (h .genes * h .nodes ≤ length (now scratch)) ⌝ }
+    requires { ⌜ Rows (familyIn h (now first) (now second) (now other) (now species) (now left) (now right) (now kind)) (now scratch) g ⌝ }
+    ensures { λ _. ⌜ Rows (familyIn h (now (first .entry)) (now (second .entry)) (now (other .entry)) (now (species .entry)) (now (left .entry)) (now (right .entry)) (now (kind .entry))) (now (scratch .exit)) (g - 1) ⌝ }
+    ensures { λ _. ⌜ Kept (familyIn h (now (first .entry)) (now (second .entry)) (now (other .entry)) (now (species .entry)) (now (left .entry)) (now (right .entry)) (now (kind .entry))) (now (scratch .entry)) (now (scratch .exit)) ⌝ }
+{
+    let n = h.nodes;
+    let mut i: usize = 0;
+    while i < n {
+        let j = i + 1;
+        let v = wide(order[j]);
+        let w = word_at(
+            scratch,
+            h,
+            g,
+            v,
+            first,
+            second,
+            other,
+            species,
+            left,
+            right,
+            kind,
+        );
+        scratch[(g - 1) * n + (v - 1)] = w;
+        i = j;
+    }
+}
+
+// All rows: genes from the last to the first, for children have higher numbers.
+fn fill_rows(
+    h: Header,
+    order: &[u32; 128],
+    first: &[u32; 128],
+    second: &[u32; 128],
+    other: &[u32; 128],
+    species: &[u32; 128],
+    left: &[u32; 128],
+    right: &[u32; 128],
+    kind: &[u32; 128],
+    scratch: &mut [u32],
+)
+    requires { ⌜ Prepared (familyIn h (now first) (now second) (now other) (now species) (now left) (now right) (now kind)) (now order) ⌝ }
+    requires { ⌜ h .genes * h .nodes ≤ length (now scratch) ⌝ }
+    ensures { λ _. ⌜ Rows (familyIn h (now (first .entry)) (now (second .entry)) (now (other .entry)) (now (species .entry)) (now (left .entry)) (now (right .entry)) (now (kind .entry))) (now (scratch .exit)) 0 ⌝ }
+    ensures { λ _. ⌜ Kept (familyIn h (now (first .entry)) (now (second .entry)) (now (other .entry)) (now (species .entry)) (now (left .entry)) (now (right .entry)) (now (kind .entry))) (now (scratch .entry)) (now (scratch .exit)) ⌝ }
+{
+    let mut g = h.genes;
+    while 0 < g {
+        fill_row(
+            h,
+            g,
+            order,
+            first,
+            second,
+            other,
+            species,
+            left,
+            right,
+            kind,
+            scratch,
+        );
+        g -= 1;
+    }
+}
+
+// The least word of the row of gene 1.
+fn least_start(n: usize, scratch: &[u32]) -> u32
+    requires { ⌜ n ≤ length (now scratch) ⌝ }
+    ensures { λ r. ⌜ costOf r ≡ leastOver n (row n (now (scratch .entry)) 1) ⌝ }
+{
+    let mut r = NONE;
+    let mut v: usize = 0;
+    while v < n {
+        r = lesser(r, scratch[v]);
+        v += 1;
+    }
+    r
+}
+
+// The lowest node above u whose parent is v, 0 where there is none.
+fn child_after(n: usize, parents: &[u32; 128], u: usize, v: usize) -> u32
+    requires { ⌜ n ≤ 127 ⌝ }
+    ensures { λ r. ⌜ r ≡ childAfter n (now (parents .entry)) u v ⌝ }
+{
+    let mut w = u;
+    while w < n {
+        w += 1;
+        if wide(parents[w]) == v {
+            return w as u32;
+        }
+    }
+    0
+}
+
+// Each node's first child.
+fn first_children(n: usize, parents: &[u32; 128]) -> [u32; 128]
+    requires { ⌜ n ≤ 127 ⌝ }
+    ensures { λ r. ⌜ r ≡ firstChildren n (now (parents .entry)) ⌝ }
+{
+    let mut out = [0u32; 128];
+    let mut v: usize = 0;
+    while v < n {
+        let w = v + 1;
+        out[w] = child_after(n, parents, 0, w);
+        v = w;
+    }
+    out
+}
+
+// Each node's second child, given the first.
+fn second_children(n: usize, parents: &[u32; 128], first: &[u32; 128]) -> [u32; 128]
+    requires { ⌜ n ≤ 127 ⌝ }
+    ensures { λ r. ⌜ r ≡ secondChildren n (now (parents .entry)) (now (first .entry)) ⌝ }
+{
+    let mut out = [0u32; 128];
+    let mut v: usize = 0;
+    while v < n {
+        let w = v + 1;
+        out[w] = child_after(n, parents, wide(first[w]), w);
+        v = w;
+    }
+    out
+}
+
+// The rank of a node by its secondary parent and its stamp: it rises along every arc.
+fn rank_from(secondary: u32, stamp: u32) -> u32
+    requires { ⌜ stamp < 1000000 ⌝ }
+    ensures { λ r. ⌜ r ≡ rankFrom secondary stamp ⌝ }
+{
+    if secondary != 0 {
+        return 2 * stamp + 1;
+    }
+    2 * stamp
+}
+
+fn ranks(n: usize, secondary: &[u32; 128], stamp: &[u32; 128]) -> [u32; 128]
+    requires { ⌜ (n ≤ 127) × ((v : ℕ) → at (now stamp) v < 1000000) ⌝ }
+    ensures { λ r. ⌜ r ≡ ranksOf n (now (secondary .entry)) (now (stamp .entry)) ⌝ }
+{
+    let mut out = [0u32; 128];
+    let mut v: usize = 0;
+    while v < n {
+        let w = v + 1;
+        out[w] = rank_from(secondary[w], stamp[w]);
+        v = w;
+    }
+    out
+}
+
+// 1 where node u comes before node v: its rank is higher, or the same and its number is lower.
+fn comes_before(rank: &[u32; 128], u: usize, v: usize) -> u32
+    requires { ⌜ (u ≤ 127) × (v ≤ 127) ⌝ }
+    ensures { λ r. ⌜ (r ≡ tally (earlier (now (rank .entry)) v u)) × (r ≤ 1) ⌝ }
+{
+    if rank[v] < rank[u] {
+        return 1;
+    }
+    if rank[u] < rank[v] {
+        return 0;
+    }
+    if u < v {
+        return 1;
+    }
+    0
+}
+
+// The place of node v among the nodes in that order.
+fn place(n: usize, rank: &[u32; 128], v: usize) -> usize
+    requires { ⌜ (n ≤ 127) × (v ≤ 127) ⌝ }
+    ensures { λ r. ⌜ r ≡ placeOf n (now (rank .entry)) v ⌝ }
+{
+    let mut r: u32 = 0;
+    let mut u: usize = 0;
+    while u < n {
+        let w = u + 1;
+        r += comes_before(rank, w, v);
+        u = w;
+    }
+    wide(r) + 1
+}
+
+// The nodes in an order in which arcs out come first.
+fn order_of(n: usize, rank: &[u32; 128]) -> [u32; 128]
+    requires { ⌜ n ≤ 127 ⌝ }
+    ensures { λ r. ⌜ Placed n (now (rank .entry)) r n ⌝ }
+{
+    let mut out = [0u32; 128];
+    let mut v: usize = 0;
+    while v < n {
+        let w = v + 1;
+        let p = place(n, rank, w);
+        out[p] = w as u32;
+        v = w;
+    }
+    out
 }
