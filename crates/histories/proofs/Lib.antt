@@ -7,3 +7,5 @@ pub mod Clauses
 pub mod Filling
 pub mod Children
 pub mod Orders
+pub mod Sizes
+pub mod Accepted

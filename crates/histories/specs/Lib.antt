@@ -3,3 +3,4 @@ pub mod Grades
 pub mod Words
 pub mod Families
 pub mod Orders
+pub mod Accepted
