@@ -50,13 +50,13 @@ module _ (n : ℕ) (principal secondary stamp species : List ℕ) (m : ℕ) (lef
   abbrev pub Whole : Family
   Whole = familyOf n principal secondary species m left right kind d t l
 
-  abbrev tableFirst : List ℕ
+  abbrev pub tableFirst : List ℕ
   tableFirst = firstChildren n principal
 
-  abbrev tableSecond : List ℕ
+  abbrev pub tableSecond : List ℕ
   tableSecond = secondChildren n principal tableFirst
 
-  abbrev tableOther : List ℕ
+  abbrev pub tableOther : List ℕ
   tableOther = firstChildren n secondary
 
   pub out-at : (v : ℕ) → 1 ≤ v → v ≤ n → Whole .out v ≡ outBy (at tableFirst v) (at tableSecond v) (at tableOther v) (at species v)
@@ -114,14 +114,14 @@ module _ (n : ℕ) (principal secondary stamp species : List ℕ) (m : ℕ) (lef
   tip-not s a b e = let z : _≡_ {A = ℕ} 0 1 = cc in omega arith
 
   module _ (ok : Accepted n principal secondary stamp species m left right kind d t l) where
-    rank : ℕ → ℕ
+    pub rank : ℕ → ℕ
     rank v = rankFrom (at secondary v) (at stamp v)
 
-    rank-in : (v : ℕ) → 1 ≤ v → v ≤ n → (networkOf n principal secondary stamp) .rank v ≡ rank v
+    pub rank-in : (v : ℕ) → 1 ≤ v → v ≤ n → (networkOf n principal secondary stamp) .rank v ≡ rank v
     unfolding networkOf rank
     rank-in v lv uv = rw (within-in n (at secondary) v lv uv, within-in n (at stamp) v lv uv)
 
-    principal-in : (v : ℕ) → 1 ≤ v → v ≤ n → (networkOf n principal secondary stamp) .principal v ≡ at principal v
+    pub principal-in : (v : ℕ) → 1 ≤ v → v ≤ n → (networkOf n principal secondary stamp) .principal v ≡ at principal v
     unfolding networkOf
     principal-in v lv uv = within-in n (at principal) v lv uv
 
@@ -129,12 +129,23 @@ module _ (n : ℕ) (principal secondary stamp species : List ℕ) (m : ℕ) (lef
     unfolding networkOf
     secondary-in v lv uv = within-in n (at secondary) v lv uv
 
-    node-in : (v : ℕ) → 1 ≤ v → v ≤ n → Node (networkOf n principal secondary stamp) v
+    pub node-in : (v : ℕ) → 1 ≤ v → v ≤ n → Node (networkOf n principal secondary stamp) v
     unfolding networkOf
     node-in v lv uv = record { low = lv; high = uv }
 
+    pub root-high : ok .sound .root ≤ n
+    unfolding networkOf
+    root-high = ok .sound .root-in .high
+
+    pub principal-le : (v : ℕ) → 1 ≤ v → v ≤ n → at principal v ≤ n
+    unfolding networkOf
+    principal-le v lv uv = rw (within-in n (at principal) v lv uv) at (ok .sound .in-principal v (node-in v lv uv))
+
+    pub root-none : at principal (ok .sound .root) ≡ 0
+    root-none = sym (principal-in (ok .sound .root) (ok .sound .root-in .low) root-high) ∙ ok .sound .root-principal
+
     -- an arc leads to a node of higher rank
-    rank-principal : (v x : ℕ) → 1 ≤ v → v ≤ n → 1 ≤ x → x ≤ n → at principal x ≡ v → rank v < rank x
+    pub rank-principal : (v x : ℕ) → 1 ≤ v → v ≤ n → 1 ≤ x → x ≤ n → at principal x ≡ v → rank v < rank x
     rank-principal v x lv uv lx ux e =
         let q = principal-in x lx ux ∙ e in
         omega (arith, ok .sound .rank-principal x (node-in x lx ux) (λ z. omega arith), ap ((networkOf n principal secondary stamp) .rank) q, rank-in v lv uv, rank-in x lx ux)
@@ -152,12 +163,8 @@ module _ (n : ℕ) (principal secondary stamp species : List ℕ) (m : ℕ) (lef
     unfolding height
     height-falls v x lx ux r = count-less n x _ _ (λ w q. is-under (omega (arith, under-is (rank x) (rank w) q))) lx ux (not-under {m = rank x} {n = rank x} (omega arith)) (is-under r)
 
-    root-low : 1 ≤ ok .sound .root
+    pub root-low : 1 ≤ ok .sound .root
     root-low = ok .sound .root-in .low
-
-    root-high : ok .sound .root ≤ n
-    unfolding networkOf
-    root-high = ok .sound .root-in .high
 
     height-le : (v : ℕ) → height v ≤ Whole .nodes
     unfolding height familyOf familyFrom

@@ -9,3 +9,4 @@ pub mod Children
 pub mod Orders
 pub mod Sizes
 pub mod Accepted
+pub mod Small
