@@ -10,3 +10,4 @@ pub mod Orders
 pub mod Sizes
 pub mod Accepted
 pub mod Small
+pub mod Promise

@@ -4,3 +4,4 @@ pub mod Words
 pub mod Families
 pub mod Orders
 pub mod Accepted
+pub mod Promise

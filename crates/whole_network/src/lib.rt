@@ -10,7 +10,9 @@ ghost use Rattle.histories.specs.Histories.{_⊓_, then, both, resting, parting
 ghost use Rattle.histories.specs.Words.{costOf, row, Small, Cell, Readable, Descendants, Rows, Kept};
 ghost use Rattle.histories.specs.Grades.{Prepared};
 ghost use Rattle.histories.specs.Orders.{ranksOf, earlier, placeOf, Placed};
-ghost use Rattle.histories.specs.Families.{outBy, geneBy, childAfter, firstChildren, secondChildren};
+ghost use Rattle.histories.specs.Families.{outBy, geneBy, childAfter, firstChildren, secondChildren, familyOf};
+ghost use Rattle.histories.specs.Accepted.{Accepted};
+ghost use Rattle.histories.specs.Promise.{WholeNetwork};
 ghost use Rattle.whole_network.specs.Headers.{familyIn};
 
 // The word that stands for no history.
@@ -488,4 +490,41 @@ fn order_of(n: usize, rank: &[u32; 128]) -> [u32; 128]
         v = w;
     }
     out
+}
+
+// Fills the table of least costs in the scratch, and returns the least cost over all histories of gene 1.
+pub fn fill(
+    h: Header,
+    principal: &[u32; 128],
+    secondary: &[u32; 128],
+    stamp: &[u32; 128],
+    species: &[u32; 128],
+    left: &[u32; 128],
+    right: &[u32; 128],
+    kind: &[u32; 128],
+    scratch: &mut [u32],
+) -> u32
+    requires { ⌜ Accepted (h .nodes) (now principal) (now secondary) (now stamp) (now species) (h .genes) (now left) (now right) (now kind) (h .duplication) (h .transfer) (h .loss) ⌝ }
+    requires { ⌜ h .genes * h .nodes ≤ length (now scratch) ⌝ }
+    ensures { λ r. ⌜ WholeNetwork (familyOf (h .nodes) (now (principal .entry)) (now (secondary .entry)) (now (species .entry)) (h .genes) (now (left .entry)) (now (right .entry)) (now (kind .entry)) (h .duplication) (h .transfer) (h .loss)) (now (scratch .entry)) (now (scratch .exit)) r ⌝ }
+{
+    let n = h.nodes;
+    let rank = ranks(n, secondary, stamp);
+    let order = order_of(n, &rank);
+    let first = first_children(n, principal);
+    let second = second_children(n, principal, &first);
+    let other = first_children(n, secondary);
+    fill_rows(
+        h,
+        &order,
+        &first,
+        &second,
+        &other,
+        species,
+        left,
+        right,
+        kind,
+        scratch,
+    );
+    least_start(n, scratch)
 }
