@@ -1,0 +1,13 @@
+pub mod Costs
+pub mod Least
+pub mod Bound
+pub mod Words
+pub mod Cells
+pub mod Clauses
+pub mod Filling
+pub mod Children
+pub mod Orders
+pub mod Sizes
+pub mod Accepted
+pub mod Small
+pub mod Promise
