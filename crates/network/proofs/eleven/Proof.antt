@@ -1,6 +1,6 @@
 -- The tops are those of the components, so the counts by them are the members, and a count above 8 is the refusal.
 -- Assumes nothing.
-use Rattle.network.proofs.Reckoning.{crowded-told}
+use Rattle.network.proofs.TopTables.{crowded-told}
 use borrow.Author.Needs.{needs}
 use Rattle.network.proofs.eleven.Statement.{statement}
 use Rattle.network.proofs.eleven.Tie as tie

@@ -7,7 +7,7 @@ use Rattle.finite.specs.Range.{count}
 use Rattle.finite.proofs.Count.{count-start}
 use Rattle.network.specs.Tables.{earlierAt}
 use Rattle.network.proofs.Loops.{tally-turn}
-use Rattle.network.proofs.Reckoning.{index-done}
+use Rattle.network.proofs.TopTables.{index-done}
 use Rattle.network.proofs.index_at.Statement.{statement}
 use Rattle.network.proofs.index_at.Tie as tie
 

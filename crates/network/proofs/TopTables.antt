@@ -1,26 +1,24 @@
 -- The tables of components by their tops hold what topology says of the network: the tops stand in a table, and a count over the nodes reads that.
 -- Assumes nothing.
 use mathlib.Core.Path.{_≡_, refl, sym, _∙_, ap}
-use mathlib.Core.Logic.{_≢_}
-use mathlib.Core.Bool.{Bool, true, false, not, cond, _&&_, _||_}
+use mathlib.Core.Bool.{Bool, _&&_}
 use mathlib.Core.List.{List}
-use Prim.Native.Nat.{ℕ, zero, suc, _+_, _≤_, _<_}
-use lib.ListN.{set}
+use Prim.Native.Nat.{ℕ, zero, suc, _≤_, _<_}
 use native.Mathlib.Omega.{arith}
-use Rattle.finite.specs.Tests.{same, under}
+use Rattle.finite.specs.Tests.{under}
 use Rattle.finite.specs.Range.{some, count}
 use Rattle.finite.specs.Tables.{at, filled}
-use Rattle.finite.proofs.Cases.{byLess, byEq}
+use Rattle.finite.proofs.Cases.{byLess}
 use Rattle.finite.proofs.Tests.{is-under, not-under, is-same, not-same}
 use Rattle.finite.proofs.Every.{some-same}
 use Rattle.finite.proofs.Count.{count-same, count-done}
 use Rattle.finite.proofs.Tables.{within-out}
-use Rattle.topology.specs.Networks.{Network, Node, Sound, isReticulation}
+use Rattle.topology.specs.Networks.{Network, Sound, isReticulation}
 use Rattle.topology.specs.Switchings.{height}
 use Rattle.topology.specs.Components.{component, memberOf, members, indexOf}
 use Rattle.topology.specs.Tables.{networkOf, rankFrom}
-use Rattle.network.specs.Refusals.{Numbered, crowdedAt, refusal11}
-use Rattle.network.specs.Tables.{zeros, table, memberWith, memberAt, membersFrom, earlierAt, indexFrom, crowdedFrom, heightAt, heightIn}
+use Rattle.network.specs.Refusals.{crowdedAt, refusal11}
+use Rattle.network.specs.Tables.{zeros, table, memberWith, memberAt, membersFrom, earlierAt, indexFrom, crowdedFrom, heightIn}
 use Rattle.network.proofs.Tables.{table-at}
 use Rattle.network.proofs.Acceptance.{secondary-at}
 use Rattle.network.proofs.Ways.{height-is}
