@@ -97,18 +97,18 @@ pub record OnWay (N : Network) (before : List ℕ) (x y : ℕ) (marks : List ℕ
   pub long : length marks ≡ 128
   pub at-each : (w : ℕ) → (marked marks w || between N a b w) ≡ (marked before w || between N x y w)
 
+pub height-is : (n : ℕ) (principal secondary stamp : List ℕ) (v : ℕ) → v ≤ n → heightAt secondary stamp v ≡ height (networkOf n principal secondary stamp) v
+unfolding heightAt heightWith height networkOf
+height-is n principal secondary stamp v u = byEq v 0 (λ e. rw (is-same e)) (λ d. rw (not-same d, within-in n (at secondary) v (omega arith) u, within-in n (at stamp) v (omega arith) u))
+
 module _ (n : ℕ) (principal secondary stamp : List ℕ) (ok : Sound (networkOf n principal secondary stamp)) where
   abbrev N : Network
   N = networkOf n principal secondary stamp
 
-  pub height-is : (v : ℕ) → v ≤ n → heightAt secondary stamp v ≡ height N v
-  unfolding heightAt heightWith height networkOf
-  height-is v u = byEq v 0 (λ e. rw (is-same e)) (λ d. rw (not-same d, within-in n (at secondary) v (omega arith) u, within-in n (at stamp) v (omega arith) u))
-
   -- a step from the node of larger height
   module _ (a b ha hb p : ℕ) (ia : a ≤ n) (ib : b ≤ n) (ea : ha ≡ heightAt secondary stamp a) (eb : hb ≡ heightAt secondary stamp b) (l : hb ≤ ha) (d : a ≢ b) (e : p ≡ at principal a) where
     low : height N b ≤ height N a
-    low = omega (arith, height-is a ia, height-is b ib)
+    low = omega (arith, height-is n principal secondary stamp a ia, height-is n principal secondary stamp b ib)
 
     some-node : a ≢ 0
     some-node = low-some (height N) (N .principal) (falls-principal N ok) a b low d

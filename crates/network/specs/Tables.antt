@@ -80,4 +80,4 @@ heightIn n secondary stamp v = cond (under n v) 1 (heightAt secondary stamp v)
 
 -- stamps as six columns hold them
 pub record Dated (n : ℕ) (stamp : List ℕ) : Type 0 where
-  pub small : (v : ℕ) → v ≤ n → at stamp v < 1000000
+  pub small : (v : ℕ) → 1 ≤ v → v ≤ n → at stamp v < 1000000

@@ -409,7 +409,7 @@ fn mark_way(
     m
 }
 
-// Marks the way between the two parents' ends of node v + 1, if it is a reticulation.
+// Marks the way between node v + 1 and its secondary parent, if it has one.
 fn mark_next(
     n: usize,
     principal: &[u32; 128],
@@ -605,7 +605,7 @@ pub fn arcs_out(n: usize, parent: &[u32; 128]) -> [u32; 128]
 }
 
 fn height_in(n: usize, secondary: &[u32; 128], stamp: &[u32; 128], v: usize) -> u32
-    requires { ⌜ v ≤ 127 ⌝ }
+    requires { ⌜ (1 ≤ v) × (v ≤ 127) ⌝ }
     requires { ⌜ Dated n (now stamp) ⌝ }
     ensures { λ r. ⌜ r ≡ heightIn n (now (secondary .entry)) (now (stamp .entry)) v ⌝ }
 {

@@ -17,7 +17,7 @@ height-at-requires : tie.Need-height-at-requires
 height-at-requires c κs = search needs
 
 cast-result : tie.Need-cast-result
-cast-result c = omega (arith, height-small (c .before .before .args .secondary .now) (c .before .before .args .stamp .now) (c .before .before .args .v) (c .before .before .pre .1 .small _ (c .before .if1 .left)), c .height-at .ensures)
+cast-result c = omega (arith, height-small (c .before .before .args .secondary .now) (c .before .before .args .stamp .now) (c .before .before .args .v) (c .before .before .pre .1 .small _ (c .before .before .pre .0 .0) (c .before .if1 .left)), c .height-at .ensures)
 
 returns-2 : tie.Need-returns-2
 unfolding heightIn
