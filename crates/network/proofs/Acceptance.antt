@@ -2,24 +2,24 @@
 -- stamp; a secondary arc keeps it, leads into a reticulation and leaves a node that is none, since a reticulation's only arc out is principal.
 -- Assumes nothing.
 use mathlib.Core.Path.{_≡_, refl, sym, _∙_, ap}
-use mathlib.Core.Logic.{_≢_, _↔_}
-use mathlib.Core.Bool.{Bool, true, false, not, cond, _&&_, _||_}
+use mathlib.Core.Logic.{_≢_}
+use mathlib.Core.Bool.{Bool, true, false, not, cond}
 use mathlib.Core.List.{List}
-use Prim.Native.Nat.{ℕ, zero, suc, _+_, _*_, _^_, _≤_, _<_}
+use Prim.Native.Nat.{ℕ, _+_, _*_, _≤_, _<_}
 use native.Mathlib.Omega.{arith}
-use Rattle.finite.specs.Tests.{same, under, tally}
-use Rattle.finite.specs.Range.{some, every, sum, count, children}
-use Rattle.finite.specs.Tables.{at, within}
-use Rattle.finite.proofs.Cases.{byBool, byEq, byLess, clash}
-use Rattle.finite.proofs.Tests.{is-same, same-is, not-same, same-not, and-l, and-r, or-no-l, or-no-r, not-true, not-false, tally-le}
+use Rattle.finite.specs.Tests.{same, tally}
+use Rattle.finite.specs.Range.{some, every, children}
+use Rattle.finite.specs.Tables.{at}
+use Rattle.finite.proofs.Cases.{byEq, byLess, clash}
+use Rattle.finite.proofs.Tests.{is-same, same-is, not-same, or-no-l, or-no-r, not-false, tally-le}
 use Rattle.finite.proofs.Every.{is-some, not-every}
 use Rattle.finite.proofs.Count.{count-same, count-some, count-find}
 use Rattle.finite.proofs.Tables.{within-in, within-zero, within-out}
-use Rattle.topology.specs.Networks.{Network, Node, Sound, Reticulation}
+use Rattle.topology.specs.Networks.{Network, Node, Sound}
 use Rattle.topology.specs.Components.{members}
 use Rattle.topology.specs.Tables.{rankFrom, networkOf}
-use Rattle.network.specs.Refusals.{Numbered, refusal6, OneRoot, Refusal6, Refusal9, principal-above, secondary-above, root-secondary, refusal7, principal-not-below, secondary-not-equal, refusal8, IsReticulation, IsInner, IsLeaf, Shape, reticulation, inner, leaf, shapelessAt, refusal9, leaf-without, other-with, two-alike, childAt, reticulationIfChild, onlyReticulationsAt, refusal10, Child, by-principal, by-secondary, refusal11}
-use Rattle.network.specs.Verdict.{networkVerdict, LeafOf, ShapeOf, PlainChild, AcceptedNetwork, Accepted}
+use Rattle.network.specs.Refusals.{Numbered, refusal6, OneRoot, Refusal6, Refusal9, principal-above, secondary-above, root-secondary, refusal7, principal-not-below, secondary-not-equal, refusal8, IsLeaf, Shape, reticulation, inner, leaf, shapelessAt, refusal9, leaf-without, other-with, two-alike, childAt, reticulationIfChild, onlyReticulationsAt, refusal10, Child, by-principal, by-secondary, refusal11}
+use Rattle.network.specs.Verdict.{networkVerdict, LeafOf, ShapeOf, PlainChild, Accepted}
 use Rattle.network.proofs.Counting.{some-none}
 use Rattle.network.proofs.Readings.{one-root, roots-6, reading-6, reading-7, shape-is, reading-9, child-is, is-child, crowded-is, reading-11}
 

@@ -1,22 +1,19 @@
 -- An accepted network has fewer reticulations than half its nodes: by its shape each node has as many principal arcs out as secondary ones, and one
 -- more if it is a reticulation; and each node but the root has one principal parent. So the trials are bounded too.
 -- Assumes nothing.
-use mathlib.Core.Path.{_≡_, refl, sym, _∙_, ap}
-use mathlib.Core.Logic.{_≢_}
-use mathlib.Core.Bool.{Bool, true, false, cond, not, _&&_}
 use mathlib.Core.List.{List}
-use Prim.Native.Nat.{ℕ, zero, suc, _+_, _*_, _^_, _≤_, _<_}
+use Prim.Native.Nat.{ℕ, _+_, _*_, _≤_, _<_}
 use native.Mathlib.Nat.{pow-le-pow-right}
 use native.Mathlib.Omega.{arith}
 use Rattle.finite.specs.Tests.{same, tally}
 use Rattle.finite.specs.Range.{sum, count, children}
-use Rattle.finite.proofs.Cases.{byBool, byEq}
+use Rattle.finite.proofs.Cases.{byEq}
 use Rattle.finite.proofs.Tests.{is-same, not-same, and-l, and-r}
 use Rattle.finite.proofs.Sum.{sum-le, sum-add, sum-mul, sum-swap}
-use Rattle.finite.proofs.Count.{count-same, count-imp, count-is, count-guarded, children-few, children-all}
+use Rattle.finite.proofs.Count.{count-imp, count-is, count-guarded, children-few, children-all}
 use Rattle.topology.specs.Networks.{Network, Node, Sound, isReticulation, reticulations}
 use Rattle.topology.specs.Components.{component, memberOf, members}
-use Rattle.network.specs.Refusals.{Shape, reticulation, inner, leaf}
+use Rattle.network.specs.Refusals.{reticulation, inner, leaf}
 use Rattle.network.specs.Verdict.{ShapeOf, AcceptedNetwork}
 use Rattle.network.specs.Trials.{trialsOf, trials}
 

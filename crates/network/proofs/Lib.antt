@@ -5,6 +5,6 @@ pub mod Readings
 pub mod ShortForms
 pub mod Acceptance
 pub mod Ways
-pub mod Reckoning
+pub mod TopTables
 pub mod Verdicts
 pub mod Bounds

@@ -1,17 +1,15 @@
 -- The turns of a loop that looks for one of 1..n that passes a test, and one law for the tests that the code hands back as they stand.
 -- Assumes nothing.
 use mathlib.Core.Path.{_≡_, refl, sym, _∙_, ap}
-use mathlib.Core.Logic.{_≢_}
-use mathlib.Core.Bool.{Bool, true, false, not, cond, _&&_, _||_}
-use Prim.Native.Nat.{ℕ, zero, suc, _+_, _≤_, _<_}
+use mathlib.Core.Bool.{Bool, true, false, not, _&&_, _||_}
+use mathlib.Core.List.{List}
+use Prim.Native.Nat.{ℕ, _+_, _≤_, _<_}
 use native.Mathlib.Numerals.{add-one}
 use native.Mathlib.Omega.{arith}
-use mathlib.Core.List.{List}
 use Rattle.finite.specs.Tests.{same, tally}
 use Rattle.finite.specs.Range.{some, count}
 use Rattle.finite.specs.Tables.{at}
 use Rattle.finite.proofs.Count.{count-turn}
-use Rattle.finite.proofs.Cases.{byBool, clash}
 use Rattle.finite.proofs.Every.{is-some}
 use Rattle.finite.proofs.Tests.{and-no-l, and-no-r, and-yes, or-yes-l, or-yes-r, or-no, not-yes, not-no, is-same, not-same, is-under, not-under}
 

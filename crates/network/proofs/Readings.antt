@@ -1,16 +1,16 @@
 -- Each refusal's test says what 01 says: from the test to its reading by the clause that passed, and back clause by clause.
 -- Assumes nothing.
-use mathlib.Core.Path.{_≡_, refl, sym, _∙_, ap}
+use mathlib.Core.Path.{_≡_, sym}
 use mathlib.Core.Logic.{_≢_, _↔_}
-use mathlib.Core.Bool.{Bool, true, false, not, cond, _&&_, _||_}
+use mathlib.Core.Bool.{Bool, true, false, not, _&&_, _||_}
 use mathlib.Core.List.{List}
-use Prim.Native.Nat.{ℕ, zero, suc, _+_, _≤_, _<_}
+use Prim.Native.Nat.{ℕ, _<_}
 use native.Mathlib.Omega.{arith}
 use Rattle.finite.specs.Tests.{same, under}
 use Rattle.finite.specs.Range.{some, every, count, children}
 use Rattle.finite.specs.Tables.{at}
-use Rattle.finite.proofs.Cases.{byBool, byEq, clash}
-use Rattle.finite.proofs.Tests.{is-same, same-is, not-same, same-not, is-under, under-is, not-under, under-not, test-iff, and-l, and-r, and-yes, or-yes-l, or-yes-r, or-no, or-r, not-true, not-false, not-yes, not-no, test-laws}
+use Rattle.finite.proofs.Cases.{byBool, clash}
+use Rattle.finite.proofs.Tests.{is-same, same-is, not-same, same-not, is-under, under-is, under-not, test-iff, and-l, and-r, and-yes, or-yes-l, or-yes-r, or-r, not-true, not-false, not-yes, not-no, test-laws}
 use Rattle.finite.proofs.Every.{some-at, is-some, every-at, is-every}
 use Rattle.finite.proofs.Count.{count-find, count-one, count-same}
 use Rattle.topology.specs.Networks.{Network, Node, Sound, Reticulation}

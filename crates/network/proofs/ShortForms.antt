@@ -1,15 +1,15 @@
 -- Refusal 9 asked node by node. A leaf's species is borne by one node alone exactly when no other leaf bears it, once no node but a leaf has one.
 -- Assumes nothing.
-use mathlib.Core.Path.{_≡_, refl, sym, _∙_, ap}
+use mathlib.Core.Path.{_≡_, refl, sym, _∙_}
 use mathlib.Core.Logic.{_≢_}
-use mathlib.Core.Bool.{Bool, true, false, not, cond, _&&_, _||_}
+use mathlib.Core.Bool.{Bool, true}
 use mathlib.Core.List.{List}
-use Prim.Native.Nat.{ℕ, zero, suc, _+_, _≤_, _<_}
+use Prim.Native.Nat.{ℕ, _≤_}
 use native.Mathlib.Omega.{arith}
 use Rattle.finite.specs.Tests.{same}
-use Rattle.finite.specs.Range.{some, count, children}
+use Rattle.finite.specs.Range.{some, children}
 use Rattle.finite.specs.Tables.{at}
-use Rattle.finite.proofs.Cases.{byBool, byEq, clash}
+use Rattle.finite.proofs.Cases.{byBool, byEq}
 use Rattle.finite.proofs.Tests.{is-same, same-is, not-same, same-not, test-iff, or-yes-r, not-true, not-yes}
 use Rattle.finite.proofs.Every.{some-at, is-some}
 use Rattle.finite.proofs.Count.{count-two}

@@ -1,11 +1,10 @@
 -- The tables that the code fills: what they hold at each place.
 -- Assumes nothing.
-use mathlib.Core.Path.{_≡_, refl, sym, _∙_, ap}
-use mathlib.Core.List.{List}
-use Prim.Native.Nat.{ℕ, _+_, _≤_, _<_}
-use lib.ListN.{length, getD, replicate, length-replicate, getD-replicate, List·getD-eq-default}
+use mathlib.Core.Path.{_≡_, _∙_}
+use Prim.Native.Nat.{ℕ, _≤_, _<_}
+use lib.ListN.{length, length-replicate, getD-replicate, List·getD-eq-default}
 use native.Mathlib.Omega.{arith}
-use Rattle.finite.specs.Tables.{at, filled, within}
+use Rattle.finite.specs.Tables.{at, within}
 use Rattle.finite.proofs.Cases.{byLess}
 use Rattle.finite.proofs.Tables.{length-filled, filled-in, filled-out, filled-zero, filled-within}
 use Rattle.network.specs.Tables.{zeros, table}

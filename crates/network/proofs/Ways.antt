@@ -3,32 +3,32 @@
 -- Assumes nothing.
 use mathlib.Core.Path.{_≡_, refl, sym, _∙_, ap}
 use mathlib.Core.Logic.{_≢_}
-use mathlib.Core.Bool.{Bool, true, false, not, cond, _&&_, _||_, Bool·beq}
+use mathlib.Core.Bool.{Bool, true, false, not, _||_, Bool·beq}
 use mathlib.Core.List.{List}
-use Prim.Native.Nat.{ℕ, zero, suc, _+_, _≤_, _<_}
+use Prim.Native.Nat.{ℕ, suc, _+_, _≤_, _<_}
 use lib.ListN.{length, set, length-set}
 use lib.Seq.{getD-set-same, getD-set-other}
 use native.Mathlib.Numerals.{add-one}
 use native.Mathlib.Omega.{arith}
 use Rattle.finite.specs.Tests.{same}
-use Rattle.finite.specs.Range.{some, every}
+use Rattle.finite.specs.Range.{some}
 use Rattle.finite.specs.Tables.{at}
-use Rattle.finite.proofs.Cases.{byBool, byEq, byLess, clash}
+use Rattle.finite.proofs.Cases.{byBool, byEq, clash}
 use Rattle.finite.proofs.Tests.{is-same, not-same, is-beq, test-iff, or-yes-r, not-true, not-false, not-yes, tally-le}
 use Rattle.finite.proofs.Every.{some-at, is-every}
+use Rattle.finite.proofs.Tables.{within-in}
 use Rattle.topology.specs.Networks.{Network, Node, Sound, Reticulation, isReticulation}
 use Rattle.topology.specs.Switchings.{allPrincipal, height, above}
 use Rattle.topology.specs.Components.{isTop, component}
-use Rattle.topology.proofs.Climbing.{low-some}
-use Rattle.topology.proofs.Above.{reticulation-node, node-secondary, node-principal, fall-principal, falls-principal, above-self, above-low, tree-not, reticulation-is, is-reticulation}
-use Rattle.topology.proofs.Components.{root-above, component-top, component-up, top-root, top-reticulation}
 use Rattle.topology.specs.Tables.{rankFrom, networkOf}
-use Rattle.finite.proofs.Tables.{within-in}
+use Rattle.topology.proofs.Climbing.{low-some}
+use Rattle.topology.proofs.Above.{node-secondary, node-principal, fall-principal, falls-principal, above-self, above-low, tree-not, reticulation-is, is-reticulation}
+use Rattle.topology.proofs.Components.{component-top, component-up, top-root, top-reticulation}
 use Rattle.network.specs.Refusals.{Numbered}
+use Rattle.network.specs.Tables.{heightWith, heightAt, zeros, between, bridged, marked, MarkedWay, MarkedWays, NonTops}
 use Rattle.network.proofs.Counting.{some-none}
 use Rattle.network.proofs.Acceptance.{numbered, node-is, principal-at, secondary-at}
 use Rattle.network.proofs.Tables.{zeros-long, zeros-at}
-use Rattle.network.specs.Tables.{heightWith, heightAt, zeros, between, bridged, marked, MarkedWay, MarkedWays, NonTops}
 
 -- marking a node
 pub marked-set : (m : List ℕ) (a : ℕ) → a < length m → (w : ℕ) → marked (set m a 1) w ≡ (same w a || marked m w)
@@ -97,18 +97,18 @@ pub record OnWay (N : Network) (before : List ℕ) (x y : ℕ) (marks : List ℕ
   pub long : length marks ≡ 128
   pub at-each : (w : ℕ) → (marked marks w || between N a b w) ≡ (marked before w || between N x y w)
 
+pub height-is : (n : ℕ) (principal secondary stamp : List ℕ) (v : ℕ) → v ≤ n → heightAt secondary stamp v ≡ height (networkOf n principal secondary stamp) v
+unfolding heightAt heightWith height networkOf
+height-is n principal secondary stamp v u = byEq v 0 (λ e. rw (is-same e)) (λ d. rw (not-same d, within-in n (at secondary) v (omega arith) u, within-in n (at stamp) v (omega arith) u))
+
 module _ (n : ℕ) (principal secondary stamp : List ℕ) (ok : Sound (networkOf n principal secondary stamp)) where
   abbrev N : Network
   N = networkOf n principal secondary stamp
 
-  pub height-is : (v : ℕ) → v ≤ n → heightAt secondary stamp v ≡ height N v
-  unfolding heightAt heightWith height networkOf
-  height-is v u = byEq v 0 (λ e. rw (is-same e)) (λ d. rw (not-same d, within-in n (at secondary) v (omega arith) u, within-in n (at stamp) v (omega arith) u))
-
   -- a step from the node of larger height
   module _ (a b ha hb p : ℕ) (ia : a ≤ n) (ib : b ≤ n) (ea : ha ≡ heightAt secondary stamp a) (eb : hb ≡ heightAt secondary stamp b) (l : hb ≤ ha) (d : a ≢ b) (e : p ≡ at principal a) where
     low : height N b ≤ height N a
-    low = omega (arith, height-is a ia, height-is b ib)
+    low = omega (arith, height-is n principal secondary stamp a ia, height-is n principal secondary stamp b ib)
 
     some-node : a ≢ 0
     some-node = low-some (height N) (N .principal) (falls-principal N ok) a b low d

@@ -1,10 +1,10 @@
--- The refusals that the network's curator can cause, 6 to 11 of 01: for each a test that computes, behind one name, and beside it what 01 says
+-- The refusals that the network can cause, 6 to 11 of 01: for each a test that computes, behind one name, and beside it what 01 says
 -- (`Refusal6` and so on), which proofs/Readings shows to be the same. The network's tables are lists: entry v is about node v, 0 is no parent
 -- and no species, and only the nodes 1..n are asked about.
 -- Assumes nothing.
 use mathlib.Core.Path.{_≡_}
-use mathlib.Core.Logic.{_≢_, _↔_, _⊎_}
-use mathlib.Core.Bool.{Bool, true, _&&_, _||_, not, cond}
+use mathlib.Core.Logic.{_≢_, _↔_}
+use mathlib.Core.Bool.{Bool, true, _&&_, _||_, not}
 use mathlib.Core.List.{List}
 use Prim.Native.Nat.{ℕ, _+_, _≤_, _<_}
 use Rattle.finite.specs.Tests.{same, under}
@@ -26,6 +26,7 @@ badParents n p s v = under n p || under n s || same p v || same s v || (same p 0
 unfoldable pub badParentsAt : ℕ → (principal secondary : List ℕ) → ℕ → Bool
 badParentsAt n principal secondary v = badParents n (at principal v) (at secondary v) v
 
+-- `children n (at principal) 0` nodes have no principal parent
 unfoldable pub refusal6 : ℕ → (principal secondary : List ℕ) → Bool
 refusal6 n principal secondary = some n (badParentsAt n principal secondary) || not (same (children n (at principal) 0) 1)
 

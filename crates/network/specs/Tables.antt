@@ -1,7 +1,7 @@
 -- Tables that the code fills (128 entries, f at 1..n and 0 elsewhere), and the marks by which it finds the tops.
 -- Assumes nothing.
 use mathlib.Core.Path.{_≡_}
-use mathlib.Core.Bool.{Bool, true, _&&_, _||_, not, cond, Bool·beq}
+use mathlib.Core.Bool.{Bool, _&&_, _||_, not, cond, Bool·beq}
 use mathlib.Core.List.{List}
 use Prim.Native.Nat.{ℕ, suc, _≤_, _<_}
 use lib.ListN.{length, replicate}
@@ -80,4 +80,4 @@ heightIn n secondary stamp v = cond (under n v) 1 (heightAt secondary stamp v)
 
 -- stamps as six columns hold them
 pub record Dated (n : ℕ) (stamp : List ℕ) : Type 0 where
-  pub small : (v : ℕ) → v ≤ n → at stamp v < 1000000
+  pub small : (v : ℕ) → 1 ≤ v → v ≤ n → at stamp v < 1000000

@@ -10,7 +10,7 @@ use Rattle.finite.specs.Tables.{at}
 use Rattle.topology.specs.Networks.{Network, Node, Sound}
 use Rattle.topology.specs.Components.{members}
 use Rattle.topology.specs.Tables.{networkOf}
-use Rattle.network.specs.Refusals.{refusal6, refusal7, refusal8, refusal9, refusal10, refusal11, Shape, IsLeaf}
+use Rattle.network.specs.Refusals.{refusal6, refusal7, refusal8, refusal9, refusal10, refusal11, Refusal6, Refusal7, Refusal8, Refusal9, Refusal10, Refusal11, Shape, IsLeaf}
 
 unfoldable pub networkVerdict : ℕ → (principal secondary stamp species : List ℕ) → ℕ
 networkVerdict n principal secondary stamp species =
@@ -20,6 +20,20 @@ networkVerdict n principal secondary stamp species =
     (cond (refusal9 n principal secondary species) 9
     (cond (refusal10 n principal secondary) 10
     (cond (refusal11 (networkOf n principal secondary stamp)) 11 0)))))
+
+-- the same in 01's words: the number given is that of a refusal that applies while those before it do not, or 0 where none applies
+pub data Ruling (n : ℕ) (principal secondary stamp species : List ℕ) (number : ℕ) : Type 0 where
+  six : number ≡ 6 → Refusal6 n principal secondary → Ruling n principal secondary stamp species number
+  seven : number ≡ 7 → ¬ (Refusal6 n principal secondary) → Refusal7 n principal secondary stamp → Ruling n principal secondary stamp species number
+  eight : number ≡ 8 → ¬ (Refusal6 n principal secondary) → ¬ (Refusal7 n principal secondary stamp) → Refusal8 n principal secondary → Ruling n principal secondary stamp species number
+  nine : number ≡ 9 → ¬ (Refusal6 n principal secondary) → ¬ (Refusal7 n principal secondary stamp) → ¬ (Refusal8 n principal secondary) → Refusal9 n principal secondary species
+      → Ruling n principal secondary stamp species number
+  ten : number ≡ 10 → ¬ (Refusal6 n principal secondary) → ¬ (Refusal7 n principal secondary stamp) → ¬ (Refusal8 n principal secondary) → ¬ (Refusal9 n principal secondary species)
+      → Refusal10 n principal secondary → Ruling n principal secondary stamp species number
+  eleven : number ≡ 11 → ¬ (Refusal6 n principal secondary) → ¬ (Refusal7 n principal secondary stamp) → ¬ (Refusal8 n principal secondary) → ¬ (Refusal9 n principal secondary species)
+      → ¬ (Refusal10 n principal secondary) → Refusal11 (networkOf n principal secondary stamp) → Ruling n principal secondary stamp species number
+  none : number ≡ 0 → ¬ (Refusal6 n principal secondary) → ¬ (Refusal7 n principal secondary stamp) → ¬ (Refusal8 n principal secondary) → ¬ (Refusal9 n principal secondary species)
+      → ¬ (Refusal10 n principal secondary) → ¬ (Refusal11 (networkOf n principal secondary stamp)) → Ruling n principal secondary stamp species number
 
 -- node v is a leaf of the network; what node v is by its parents and arcs out
 abbrev pub LeafOf : Network → ℕ → Type 0

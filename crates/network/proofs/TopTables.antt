@@ -1,0 +1,111 @@
+-- The tables of components by their tops hold what topology says of the network: the tops stand in a table, and a count over the nodes reads that.
+-- Assumes nothing.
+use mathlib.Core.Path.{_≡_, refl, sym, _∙_, ap}
+use mathlib.Core.Bool.{Bool, _&&_}
+use mathlib.Core.List.{List, [], _∷_}
+use lib.ListN.{length, getD, List·getD-eq-default}
+use Prim.Native.Nat.{ℕ, zero, suc, _≤_, _<_}
+use native.Mathlib.Omega.{arith}
+use Rattle.finite.specs.Tests.{under}
+use Rattle.finite.specs.Range.{some, count}
+use Rattle.finite.specs.Tables.{at, filled}
+use Rattle.finite.proofs.Cases.{byEq, byLess}
+use Rattle.finite.proofs.Tests.{is-under, not-under, is-same, not-same}
+use Rattle.finite.proofs.Every.{some-same}
+use Rattle.finite.proofs.Count.{count-same, count-done}
+use Rattle.finite.proofs.Tables.{within-out}
+use Rattle.topology.specs.Networks.{Network, Sound, isReticulation}
+use Rattle.topology.specs.Switchings.{height}
+use Rattle.topology.specs.Components.{component, memberOf, members, indexOf}
+use Rattle.topology.specs.Tables.{networkOf, rankFrom}
+use Rattle.network.specs.Refusals.{crowdedAt, refusal11}
+use Rattle.network.specs.Tables.{zeros, table, memberWith, memberAt, membersFrom, earlierAt, indexFrom, crowdedFrom, heightIn}
+use Rattle.network.proofs.Tables.{table-at, table-long, table-zero}
+use Rattle.network.proofs.Acceptance.{secondary-at}
+use Rattle.network.proofs.Ways.{height-is}
+
+filled-same : (n : ℕ) (l : List ℕ) (f g : ℕ → ℕ) → ((v : ℕ) → 1 ≤ v → v ≤ n → f v ≡ g v) → filled n l f ≡ filled n l g
+unfolding filled
+filled-same zero l f g h = refl
+filled-same (suc k) l f g h = rw (filled-same k l f g (λ v a b. h v a (omega arith)), h (suc k) (omega arith) (omega arith))
+
+pub table-same : (n : ℕ) (f g : ℕ → ℕ) → ((v : ℕ) → 1 ≤ v → v ≤ n → f v ≡ g v) → table n f ≡ table n g
+unfolding table
+table-same n f g h = filled-same n zeros f g h
+
+-- the end of the loop that counts the members before r
+pub index-done : (n v r c k : ℕ) (secondary tops : List ℕ) → c ≡ at tops r → v ≤ n → n ≤ v → k ≡ count v (earlierAt secondary tops c r) → k ≡ indexFrom n secondary tops r
+unfolding indexFrom
+index-done n v r c k secondary tops e a b h = rw (← e) (count-done (earlierAt secondary tops c r) n v k a b h)
+
+-- within the list the default does not matter
+default-in : (l : List ℕ) (v : ℕ) → v < length l → getD l v 1 ≡ at l v
+default-in [] v b = absurd (omega arith)
+default-in (x ∷ xs) zero b = refl
+default-in (x ∷ xs) (suc v) b = default-in xs v (omega arith)
+
+height-none : (n : ℕ) (principal secondary stamp : List ℕ) → height (networkOf n principal secondary stamp) 0 ≡ 0
+unfolding height
+height-none n principal secondary stamp = rw (is-same {m = 0} refl)
+
+module _ (n : ℕ) (principal secondary stamp : List ℕ) (b : n ≤ 127) where
+  abbrev N : Network
+  N = networkOf n principal secondary stamp
+
+  abbrev tops : List ℕ
+  tops = table n (component N)
+
+  member-is : (c r : ℕ) → 1 ≤ r → r ≤ n → memberAt secondary tops c r ≡ memberOf N c r
+  unfolding memberAt memberWith memberOf isReticulation
+  member-is c r l u = rw (table-at n (component N) b r l u, secondary-at n principal secondary stamp r (record { low = l; high = u }))
+
+  members-is : (c : ℕ) → membersFrom n secondary tops c ≡ members N c
+  unfolding membersFrom members networkOf
+  members-is c = count-same n (memberAt secondary tops c) (memberOf N c) (member-is c)
+
+  index-is : (r : ℕ) → 1 ≤ r → r ≤ n → indexFrom n secondary tops r ≡ indexOf N r
+  unfolding indexFrom indexOf earlierAt networkOf
+  index-is r l u = rw (table-at n (component N) b r l u) (count-same n _ _ (λ q lq uq. ap (λ (t : Bool). t && under q r) (member-is (component N r) q lq uq)))
+
+  -- with the tops of the components in their table, these tables hold the members of each component and the index of each reticulation in its own
+  pub members-are : table n (membersFrom n secondary (table n (component N))) ≡ table n (members N)
+  members-are = table-same n _ _ (λ c _ _. members-is c)
+
+  pub indices-are : table n (indexFrom n secondary (table n (component N))) ≡ table n (indexOf N)
+  indices-are = table-same n _ _ index-is
+
+  pub members-told : (t m : List ℕ) → t ≡ table n (component N) → m ≡ table n (membersFrom n secondary t) → m ≡ table n (members N)
+  members-told t m e q = q ∙ rw e members-are
+
+  pub indices-told : (t x : List ℕ) → t ≡ table n (component N) → x ≡ table n (indexFrom n secondary t) → x ≡ table n (indexOf N)
+  indices-told t x e q = q ∙ rw e indices-are
+
+  pub crowded-are : some n (crowdedFrom (table n (membersFrom n secondary (table n (component N))))) ≡ refusal11 N
+  unfolding refusal11 crowdedAt crowdedFrom networkOf
+  crowded-are = rw members-are (some-same n (λ c. under 8 (at (table n (members N)) c)) (λ c. under 8 (members N c)) (λ c l u. rw (table-at n (members N) b c l u)))
+
+  pub crowded-told : (t m : List ℕ) (r : Bool) → t ≡ table n (component N) → m ≡ table n (membersFrom n secondary t) → r ≡ some n (crowdedFrom m) → r ≡ refusal11 N
+  crowded-told t m r e q h = h ∙ rw (q, e) crowded-are
+
+-- the table of heights holds topology's height of every number, with 1 past its end
+module _ (n : ℕ) (principal secondary stamp : List ℕ) where
+  past-height : (v : ℕ) → n < v → height (networkOf n principal secondary stamp) v ≡ 1
+  unfolding height networkOf rankFrom
+  past-height v l = rw (not-same {m = v} {n = 0} (λ e. omega arith), within-out n (at secondary) v l, within-out n (at stamp) v l, is-same {m = 0} refl)
+
+  height-in : (v : ℕ) → heightIn n secondary stamp v ≡ height (networkOf n principal secondary stamp) v
+  unfolding heightIn
+  height-in v = byLess n v (λ l. rw (is-under l) (sym (past-height v l))) (λ u. rw (not-under u) (height-is n principal secondary stamp v u))
+
+  pub heights-are : table 127 (heightIn n secondary stamp) ≡ table 127 (height (networkOf n principal secondary stamp))
+  heights-are = table-same 127 _ _ (λ v _ _. height-in v)
+
+  pub heights-every : n ≤ 127 → (v : ℕ) → getD (table 127 (height (networkOf n principal secondary stamp))) v 1 ≡ height (networkOf n principal secondary stamp) v
+  heights-every b v = byLess v 128 (λ l. default-in (table 127 f) v (omega (arith, table-long 127 f)) ∙ inside l)
+      (λ g. List·getD-eq-default (table 127 f) 1 {n = v} (omega (arith, table-long 127 f)) ∙ sym (past-height v (omega arith)))
+    where
+      f : ℕ → ℕ
+      f = height (networkOf n principal secondary stamp)
+
+      inside : v < 128 → at (table 127 (height (networkOf n principal secondary stamp))) v ≡ height (networkOf n principal secondary stamp) v
+      inside l = byEq v 0 (λ e. rw (e, table-zero 127 f) (sym (height-none n principal secondary stamp))) (λ d. table-at 127 f (omega arith) v (omega arith) (omega arith))

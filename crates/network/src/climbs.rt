@@ -1,0 +1,173 @@
+// Heights, and the tops of the components. The climbs end because the network is sound: 6, 7 and 8 have passed.
+use super::counts::wide;
+ghost use mathlib.Core.Path.{_≡_};
+ghost use Prim.Native.Nat.{_+_, _≤_, _<_};
+ghost use lib.ListN.{length};
+ghost use Rattle.topology.specs.Networks.{Sound};
+ghost use Rattle.topology.specs.Components.{component};
+ghost use Rattle.topology.specs.Tables.{networkOf};
+ghost use Rattle.network.specs.Tables.{table, heightWith, heightAt, heightIn, Dated, MarkedWay, MarkedWays, NonTops};
+
+fn height_with(v: usize, s: u32, t: u32) -> u64
+    ensures { λ r. ⌜ r ≡ heightWith v s t ⌝ }
+{
+    if v == 0 {
+        return 0;
+    }
+    let low = 2 * (t as u64) + 1;
+    if s == 0 {
+        return low;
+    }
+    low + 1
+}
+
+// The height of node v. Stamps may be any numbers here, so twice a stamp needs 64 bits.
+fn height_at(secondary: &[u32; 128], stamp: &[u32; 128], v: usize) -> u64
+    requires { ⌜ v ≤ 127 ⌝ }
+    ensures { λ r. ⌜ r ≡ heightAt (now (secondary .entry)) (now (stamp .entry)) v ⌝ }
+{
+    height_with(v, secondary[v], stamp[v])
+}
+
+fn height_in(n: usize, secondary: &[u32; 128], stamp: &[u32; 128], v: usize) -> u32
+    requires { ⌜ (1 ≤ v) × (v ≤ 127) ⌝ }
+    requires { ⌜ Dated n (now stamp) ⌝ }
+    ensures { λ r. ⌜ r ≡ heightIn n (now (secondary .entry)) (now (stamp .entry)) v ⌝ }
+{
+    if n < v {
+        return 1;
+    }
+    height_at(secondary, stamp, v) as u32
+}
+
+// The heights of the numbers 1 to 127.
+pub fn heights(n: usize, secondary: &[u32; 128], stamp: &[u32; 128]) -> [u32; 128]
+    requires { ⌜ Dated n (now stamp) ⌝ }
+    ensures { λ r. ⌜ r ≡ table 127 (heightIn n (now (secondary .entry)) (now (stamp .entry))) ⌝ }
+{
+    let mut out = [0u32; 128];
+    let mut v: usize = 0;
+    while v < 127 {
+        let w = v + 1;
+        out[w] = height_in(n, secondary, stamp, w);
+        v = w;
+    }
+    out
+}
+
+// Marks the nodes on the way between x and y in the principal tree, the one where they meet left out: the climber of larger height goes on.
+fn mark_way(
+    n: usize,
+    principal: &[u32; 128],
+    secondary: &[u32; 128],
+    stamp: &[u32; 128],
+    marks: [u32; 128],
+    x: usize,
+    y: usize,
+) -> [u32; 128]
+    requires { ⌜ (n ≤ 127) × (x ≤ n) × (y ≤ n) × (length marks ≡ 128) ⌝ }
+    requires { ⌜ Sound (networkOf n (now principal) (now secondary) (now stamp)) ⌝ }
+    ensures { λ r. ⌜ MarkedWay (networkOf n (now (principal .entry)) (now (secondary .entry)) (now (stamp .entry))) marks r x y ⌝ }
+{
+    let mut m = marks;
+    let mut a = x;
+    let mut b = y;
+    while a != b {
+        let p = height_at(secondary, stamp, a);
+        let q = height_at(secondary, stamp, b);
+        if p < q {
+            m[b] = 1;
+            b = wide(principal[b]);
+        } else {
+            m[a] = 1;
+            a = wide(principal[a]);
+        }
+    }
+    m
+}
+
+// Marks the way between node v + 1 and its secondary parent, if it has one.
+fn mark_next(
+    n: usize,
+    principal: &[u32; 128],
+    secondary: &[u32; 128],
+    stamp: &[u32; 128],
+    marks: [u32; 128],
+    v: usize,
+) -> [u32; 128]
+    requires { ⌜ (n ≤ 127) × (v < n) ⌝ }
+    requires { ⌜ Sound (networkOf n (now principal) (now secondary) (now stamp)) ⌝ }
+    requires { ⌜ MarkedWays (networkOf n (now principal) (now secondary) (now stamp)) marks v ⌝ }
+    ensures { λ r. ⌜ MarkedWays (networkOf n (now (principal .entry)) (now (secondary .entry)) (now (stamp .entry))) r (v + 1) ⌝ }
+{
+    let w = v + 1;
+    let s = wide(secondary[w]);
+    if s == 0 {
+        return marks;
+    }
+    mark_way(n, principal, secondary, stamp, marks, w, s)
+}
+
+// The nodes that are no tops are marked.
+fn non_tops(
+    n: usize,
+    principal: &[u32; 128],
+    secondary: &[u32; 128],
+    stamp: &[u32; 128],
+) -> [u32; 128]
+    requires { ⌜ n ≤ 127 ⌝ }
+    requires { ⌜ Sound (networkOf n (now principal) (now secondary) (now stamp)) ⌝ }
+    ensures { λ r. ⌜ NonTops (networkOf n (now (principal .entry)) (now (secondary .entry)) (now (stamp .entry))) r ⌝ }
+{
+    let mut m = [0u32; 128];
+    let mut v: usize = 0;
+    while v < n {
+        let next = mark_next(n, principal, secondary, stamp, m, v);
+        m = next;
+        v += 1;
+    }
+    m
+}
+
+// The top of v's component: the first node without a mark, going up principal arcs.
+fn top_of(
+    n: usize,
+    principal: &[u32; 128],
+    secondary: &[u32; 128],
+    stamp: &[u32; 128],
+    marks: &[u32; 128],
+    v: usize,
+) -> u32
+    requires { ⌜ (n ≤ 127) × (1 ≤ v) × (v ≤ n) ⌝ }
+    requires { ⌜ Sound (networkOf n (now principal) (now secondary) (now stamp)) ⌝ }
+    requires { ⌜ NonTops (networkOf n (now principal) (now secondary) (now stamp)) (now marks) ⌝ }
+    ensures { λ r. ⌜ r ≡ component (networkOf n (now (principal .entry)) (now (secondary .entry)) (now (stamp .entry))) v ⌝ }
+{
+    let mut a = v;
+    while marks[a] != 0 {
+        a = wide(principal[a]);
+    }
+    a as u32
+}
+
+// The top of each node's component.
+pub fn tops(
+    n: usize,
+    principal: &[u32; 128],
+    secondary: &[u32; 128],
+    stamp: &[u32; 128],
+) -> [u32; 128]
+    requires { ⌜ n ≤ 127 ⌝ }
+    requires { ⌜ Sound (networkOf n (now principal) (now secondary) (now stamp)) ⌝ }
+    ensures { λ r. ⌜ r ≡ table n (component (networkOf n (now (principal .entry)) (now (secondary .entry)) (now (stamp .entry)))) ⌝ }
+{
+    let marks = non_tops(n, principal, secondary, stamp);
+    let mut out = [0u32; 128];
+    let mut v: usize = 0;
+    while v < n {
+        let w = v + 1;
+        out[w] = top_of(n, principal, secondary, stamp, &marks, w);
+        v = w;
+    }
+    out
+}

@@ -1,0 +1,128 @@
+// The reticulations of each component, by the tops, and refusal 11.
+use super::climbs::tops;
+use super::counts::one_if_true;
+use super::counts::wide;
+ghost use mathlib.Core.Path.{_≡_};
+ghost use Prim.Native.Nat.{_≤_};
+ghost use Rattle.finite.specs.Range.{some};
+ghost use Rattle.network.specs.Refusals.{refusal11};
+ghost use Rattle.topology.specs.Networks.{Sound};
+ghost use Rattle.topology.specs.Tables.{networkOf};
+ghost use Rattle.network.specs.Tables.{table, memberWith, memberAt, membersFrom, earlierAt, indexFrom, crowdedFrom};
+
+fn member_with(s: u32, top: usize, c: usize) -> bool
+    ensures { λ r. ⌜ r ≡ memberWith s top c ⌝ }
+{
+    if s == 0 {
+        return false;
+    }
+    top == c
+}
+
+fn member_at(secondary: &[u32; 128], tops: &[u32; 128], c: usize, r: usize) -> bool
+    requires { ⌜ r ≤ 127 ⌝ }
+    ensures { λ b. ⌜ b ≡ memberAt (now (secondary .entry)) (now (tops .entry)) c r ⌝ }
+{
+    member_with(secondary[r], wide(tops[r]), c)
+}
+
+fn members_at(n: usize, secondary: &[u32; 128], tops: &[u32; 128], c: usize) -> u32
+    requires { ⌜ n ≤ 127 ⌝ }
+    ensures { λ r. ⌜ r ≡ membersFrom n (now (secondary .entry)) (now (tops .entry)) c ⌝ }
+{
+    let mut k: u32 = 0;
+    let mut v: usize = 0;
+    while v < n {
+        let w = v + 1;
+        k += one_if_true(member_at(secondary, tops, c, w));
+        v = w;
+    }
+    k
+}
+
+// How many reticulations each component has, at its top.
+pub fn members(n: usize, secondary: &[u32; 128], tops: &[u32; 128]) -> [u32; 128]
+    requires { ⌜ n ≤ 127 ⌝ }
+    ensures { λ r. ⌜ r ≡ table n (membersFrom n (now (secondary .entry)) (now (tops .entry))) ⌝ }
+{
+    let mut out = [0u32; 128];
+    let mut v: usize = 0;
+    while v < n {
+        let w = v + 1;
+        out[w] = members_at(n, secondary, tops, w);
+        v = w;
+    }
+    out
+}
+
+fn earlier_at(secondary: &[u32; 128], tops: &[u32; 128], c: usize, r: usize, q: usize) -> bool
+    requires { ⌜ q ≤ 127 ⌝ }
+    ensures { λ b. ⌜ b ≡ earlierAt (now (secondary .entry)) (now (tops .entry)) c r q ⌝ }
+{
+    if !member_at(secondary, tops, c, q) {
+        return false;
+    }
+    q < r
+}
+
+fn index_at(n: usize, secondary: &[u32; 128], tops: &[u32; 128], r: usize) -> u32
+    requires { ⌜ (n ≤ 127) × (r ≤ 127) ⌝ }
+    ensures { λ k. ⌜ k ≡ indexFrom n (now (secondary .entry)) (now (tops .entry)) r ⌝ }
+{
+    let c = wide(tops[r]);
+    let mut k: u32 = 0;
+    let mut v: usize = 0;
+    while v < n {
+        let w = v + 1;
+        k += one_if_true(earlier_at(secondary, tops, c, r, w));
+        v = w;
+    }
+    k
+}
+
+// How many reticulations of its component have a lower number than each node.
+pub fn indices(n: usize, secondary: &[u32; 128], tops: &[u32; 128]) -> [u32; 128]
+    requires { ⌜ n ≤ 127 ⌝ }
+    ensures { λ r. ⌜ r ≡ table n (indexFrom n (now (secondary .entry)) (now (tops .entry))) ⌝ }
+{
+    let mut out = [0u32; 128];
+    let mut v: usize = 0;
+    while v < n {
+        let w = v + 1;
+        out[w] = index_at(n, secondary, tops, w);
+        v = w;
+    }
+    out
+}
+
+fn crowded_from(members: &[u32; 128], c: usize) -> bool
+    requires { ⌜ c ≤ 127 ⌝ }
+    ensures { λ r. ⌜ r ≡ crowdedFrom (now (members .entry)) c ⌝ }
+{
+    8 < members[c]
+}
+
+fn some_crowded(n: usize, members: &[u32; 128]) -> bool
+    requires { ⌜ n ≤ 127 ⌝ }
+    ensures { λ r. ⌜ r ≡ some n (crowdedFrom (now (members .entry))) ⌝ }
+{
+    let mut v: usize = 0;
+    while v < n {
+        if crowded_from(members, v + 1) {
+            return true;
+        }
+        v += 1;
+    }
+    false
+}
+
+// 11. The climbs of `tops` end: 6, 7 and 8 have passed.
+pub fn eleven(n: usize, principal: &[u32; 128], secondary: &[u32; 128], stamp: &[u32; 128]) -> bool
+    requires { ⌜ n ≤ 127 ⌝ }
+    requires { ⌜ Sound (networkOf n (now principal) (now secondary) (now stamp)) ⌝ }
+    ensures { λ r. ⌜ r ≡ refusal11 (networkOf n (now (principal .entry)) (now (secondary .entry)) (now (stamp .entry))) ⌝ }
+{
+    let top = tops(n, principal, secondary, stamp);
+    let held = members(n, secondary, &top);
+    some_crowded(n, &held)
+}
