@@ -136,9 +136,9 @@ module _ (n : ℕ) (principal secondary stamp : List ℕ) (few : n ≤ 127) (ok 
       top-in = low;
       few = omega (arith, P .sizes c kc);
       indexed = λ r l u d e.
-        let z : N .secondary r ≢ 0 = rw (secondary-is r l u) d in
-        let t : memberOf N c r ≡ true = is-member N c r z (sym (P .tops r (node-of r l u)) ∙ e) in
-        omega (arith, P .sizes c kc, P .indices r z, members-split N ok c r t);
+          let z : N .secondary r ≢ 0 = rw (secondary-is r l u) d in
+          let t : memberOf N c r ≡ true = is-member N c r z (sym (P .tops r (node-of r l u)) ∙ e) in
+          omega (arith, P .sizes c kc, P .indices r z, members-split N ok c r t);
     }
 
   -- the on parents by the marks
