@@ -1,34 +1,34 @@
 -- What the tables give for each gene is what crate reconciliation defines: the tables hold the places, so each of its definitions reads the same
 -- numbers. Sums along a way are compared as sums over the nodes of the way.
 -- Assumes nothing.
-use mathlib.Core.Path.{_≡_, refl, sym, _∙_, ap, fun-ext}
+use mathlib.Core.Path.{_≡_, refl, sym, _∙_, fun-ext}
 use mathlib.Core.Logic.{_≢_}
-use mathlib.Core.Bool.{Bool, true, false, cond, _&&_, _||_, not}
+use mathlib.Core.Bool.{Bool, true, false, cond, _||_, not}
 use mathlib.Core.List.{List}
-use Prim.Native.Nat.{ℕ, _+_, _≤_, _<_}
+use Prim.Native.Nat.{ℕ, _≤_}
 use native.Mathlib.Omega.{arith}
 use Rattle.finite.specs.Tests.{same, tally}
-use Rattle.finite.specs.Range.{sum, count, children}
+use Rattle.finite.specs.Range.{count, children}
 use Rattle.finite.specs.Tables.{at, filled}
 use Rattle.finite.proofs.Cases.{byBool, byEq, byLess, clash}
-use Rattle.finite.proofs.Tests.{is-same, same-is, not-same, tally-le}
+use Rattle.finite.proofs.Tests.{is-same, not-same, tally-le}
 use Rattle.finite.proofs.Sum.{sum-same, sum-zero, sum-at}
 use Rattle.finite.proofs.Tables.{filled-in, filled-out, filled-zero}
 use Rattle.topology.specs.Climbing.{along}
-use Rattle.topology.specs.Networks.{Network, Node, isReticulation}
-use Rattle.topology.specs.Switchings.{parent, onSecondary, onArcs, above}
+use Rattle.topology.specs.Networks.{Network, Node}
+use Rattle.topology.specs.Switchings.{parent, onSecondary, onArcs}
 use Rattle.topology.specs.Switchings as S
 use Rattle.reconciliation.specs.GeneTrees.{GeneTree}
 use Rattle.reconciliation.specs.Mapping.{place, forks, sendsSecondary, isDuplication, event, transfers, passed, leaves, losses}
 use Rattle.reconciliation.proofs.Places.{child-gene, parent-gene, place-node, parent-above}
 use Rattle.reconciliation.proofs.Events.{SendsSecondary, sends-is, is-sends, event-test}
-use Rattle.reconciliation.proofs.Ways.{onWay, along-sum, higher, higher-node}
+use Rattle.reconciliation.proofs.Ways.{along-sum}
 use Rattle.reconciliation.proofs.Bounds.{transfers-le, losses-le}
 use Rattle.gene_tree.specs.Genes.{zeros}
 use Rattle.gene_tree.proofs.Genes.{zeros-at, zeros-long}
 use Rattle.mapping.specs.Switched.{switchedOf, taken, Switched, Below, weighs, leavingFrom, leavingTable, ones, forkMark, forkTable, forksTable}
 use Rattle.mapping.specs.Genes.{genesOf, Family, Coming, childHere, eventFrom, eventAt, leavesFrom, wayOf, betweenOf, transfersAt, lossesFrom, lossesAt, placeTable, eventTable}
-use Rattle.mapping.proofs.Climbs.{parent-is, up-low, on-low, below-up}
+use Rattle.mapping.proofs.Climbs.{parent-is, below-up}
 use Rattle.mapping.proofs.ArcsOut.{ones-at, hit, miss}
 
 -- a table filled from zeros holds f at 1..k and 0 elsewhere, so it holds what f is bounded by

@@ -1,9 +1,8 @@
 -- A gene tree on a switched network as tables hold it, and what the tables give for each gene: its place from its children's, its event, the
 -- transfers and losses on its way. Each equals the definition of crate reconciliation (proofs/Mapped).
 -- Assumes nothing.
-use mathlib.Core.Path.{_≡_}
 use mathlib.Core.Logic.{_≢_}
-use mathlib.Core.Bool.{Bool, cond, _&&_, _||_, not}
+use mathlib.Core.Bool.{cond, _&&_, _||_, not}
 use mathlib.Core.List.{List}
 use Prim.Native.Nat.{ℕ, _+_, _≤_}
 use Rattle.finite.specs.Tests.{same, tally}

@@ -3,13 +3,12 @@
 // `left` and `right`, the children; `leaf`, the node of a leaf gene; `mother`, the parent gene.
 ghost use mathlib.Core.Path.{_≡_};
 ghost use mathlib.Core.Logic.{_≢_};
-ghost use mathlib.Core.Bool.{true};
-ghost use Prim.Native.Nat.{ℕ, _+_, _-_, _^_, _≤_, _<_};
+ghost use Prim.Native.Nat.{ℕ, _+_, _-_, _≤_, _<_};
 ghost use Rattle.finite.specs.Tests.{same, tally};
 ghost use Rattle.finite.specs.Tables.{at};
 ghost use Rattle.topology.specs.Switchings.{lca};
-ghost use Rattle.mapping.specs.Switched.{switchedOf, taken, Switched, Below, weighs, leavingFrom, leavingTable, forkMark, forkTable, forksTable};
-ghost use Rattle.mapping.specs.Settings.{bitOf, markFrom, markAt, markTable, Numbered, upFrom, upAt, upTable};
+ghost use Rattle.mapping.specs.Switched.{switchedOf, taken, Switched, Below, leavingTable, forkTable, forksTable};
+ghost use Rattle.mapping.specs.Settings.{bitOf, markFrom, markTable, Numbered, upFrom, upTable};
 ghost use Rattle.mapping.specs.Genes.{genesOf, Family, Kin, Ready, Coming, placeAt, childHere, eventFrom, eventAt, leavesFrom, wayOf, betweenOf, lossesFrom, transfersAt, lossesAt, placeTable, eventTable, transferTable, lossTable};
 ghost use Rattle.mapping.specs.Score.{Cheap, Room, chargedBy, scoreOf};
 

@@ -3,7 +3,7 @@
 use mapping::Score;
 use mapping::UnitCosts;
 ghost use mathlib.Core.Path.{_≡_};
-ghost use Prim.Native.Nat.{ℕ, _≤_};
+ghost use Prim.Native.Nat.{_≤_};
 ghost use Rattle.mapping.specs.Switched.{switchedOf, Switched};
 ghost use Rattle.mapping.specs.Genes.{Family};
 ghost use Rattle.mapping.specs.Score.{Cheap};

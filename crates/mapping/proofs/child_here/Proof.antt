@@ -1,21 +1,18 @@
+-- `mapping::child_here` meets its contract. The branches settle the two tests.
+-- Assumes nothing.
 use Rattle.finite.proofs.Tests.{is-same, not-same}
 use Rattle.mapping.specs.Genes.{childHere}
 use Rattle.mapping.proofs.child_here.Statement.{statement}
 use Rattle.mapping.proofs.child_here.Tie as tie
-use Rattle.mapping.proofs.child_here.Reads as reads
-use Rattle.mapping.proofs.child_here.Lts as lts
 
--- src/lib.rt:271:9
 returns : tie.Need-returns
 unfolding childHere
 returns c = rw (is-same (c .if1 .taken))
 
--- src/lib.rt:274:9
 returns-2 : tie.Need-returns-2
 unfolding childHere
 returns-2 c = rw (not-same (c .before .if1 .left), is-same (c .if2 .taken))
 
--- src/lib.rt:267:1
 returns-3 : tie.Need-returns-3
 unfolding childHere
 returns-3 c = rw (not-same (c .before .if1 .left), not-same (c .if2 .left))

@@ -1,21 +1,18 @@
+-- `mapping::event_of` meets its contract. The branches settle the two tests.
+-- Assumes nothing.
 use Rattle.finite.proofs.Tests.{is-same, not-same}
 use Rattle.mapping.specs.Genes.{eventFrom}
 use Rattle.mapping.proofs.event_of.Statement.{statement}
 use Rattle.mapping.proofs.event_of.Tie as tie
-use Rattle.mapping.proofs.event_of.Reads as reads
-use Rattle.mapping.proofs.event_of.Lts as lts
 
--- src/lib.rt:285:9
 returns : tie.Need-returns
 unfolding eventFrom
 returns c = rw (not-same (c .if1 .taken))
 
--- src/lib.rt:288:9
 returns-2 : tie.Need-returns-2
 unfolding eventFrom
 returns-2 c = rw (is-same (c .before .if1 .left), is-same (c .if2 .taken))
 
--- src/lib.rt:281:1
 returns-3 : tie.Need-returns-3
 unfolding eventFrom
 returns-3 c = rw (is-same (c .before .if1 .left), not-same (c .if2 .left))

@@ -1,11 +1,9 @@
-use Prim.Native.Nat.{ℕ, _-_, _≤_}
+-- `mapping_test::gene_lines` meets its contract. The entries read are in the tables.
+-- Assumes nothing.
+use Prim.Native.Nat.{_-_, _≤_}
 use borrow.Author.Needs.{needs}
 use Rattle.mapping_test.proofs.gene_lines.Statement.{statement}
 use Rattle.mapping_test.proofs.gene_lines.Tie as tie
-use Rattle.mapping_test.proofs.gene_lines.Reads as reads
-use Rattle.mapping_test.proofs.gene_lines.Lts as lts
-use Rattle.mapping_test.proofs.end_line.Reads as end-line-reads
-use Rattle.mapping_test.proofs.number.Reads as number-reads
 
 abbrev Inv-loop : tie.InvT-loop
 Inv-loop m place event transfers losses g₀ g = g ≤ m
@@ -13,83 +11,63 @@ Inv-loop m place event transfers losses g₀ g = g ≤ m
 abbrev μ-loop : tie.MeasureT-loop
 μ-loop m place event transfers losses g₀ g = m - g
 
--- src/main.rt:39:5
 loop-holds : tie.Need-loop-holds Inv-loop μ-loop
 loop-holds c = search needs
 
--- src/main.rt:40:17
 add-w : tie.Need-add-w Inv-loop μ-loop
 add-w c = search needs
 
--- src/main.rt:41:16
 cast-number : tie.Need-cast-number Inv-loop μ-loop
 cast-number c = search needs
 
--- src/main.rt:41:9
 number-requires : tie.Need-number-requires Inv-loop μ-loop
 number-requires c κs = search needs
 
--- src/main.rt:42:16
 mul-number : tie.Need-mul-number Inv-loop μ-loop
 mul-number c = search needs
 
--- src/main.rt:42:16
 element-copy-out-number : tie.Need-element-copy-out-number Inv-loop μ-loop
 element-copy-out-number c = search needs
 
--- src/main.rt:42:9
 number-requires-2 : tie.Need-number-requires-2 Inv-loop μ-loop
 number-requires-2 c κs = search needs
 
--- src/main.rt:43:16
 mul-number-2 : tie.Need-mul-number-2 Inv-loop μ-loop
 mul-number-2 c = search needs
 
--- src/main.rt:43:16
 element-copy-out-number-2 : tie.Need-element-copy-out-number-2 Inv-loop μ-loop
 element-copy-out-number-2 c = search needs
 
--- src/main.rt:43:9
 number-requires-3 : tie.Need-number-requires-3 Inv-loop μ-loop
 number-requires-3 c κs = search needs
 
--- src/main.rt:44:16
 mul-number-3 : tie.Need-mul-number-3 Inv-loop μ-loop
 mul-number-3 c = search needs
 
--- src/main.rt:44:16
 element-copy-out-number-3 : tie.Need-element-copy-out-number-3 Inv-loop μ-loop
 element-copy-out-number-3 c = search needs
 
--- src/main.rt:44:9
 number-requires-4 : tie.Need-number-requires-4 Inv-loop μ-loop
 number-requires-4 c κs = search needs
 
--- src/main.rt:45:16
 mul-number-4 : tie.Need-mul-number-4 Inv-loop μ-loop
 mul-number-4 c = search needs
 
--- src/main.rt:45:16
 element-copy-out-number-4 : tie.Need-element-copy-out-number-4 Inv-loop μ-loop
 element-copy-out-number-4 c = search needs
 
--- src/main.rt:45:9
 number-requires-5 : tie.Need-number-requires-5 Inv-loop μ-loop
 number-requires-5 c κs = search needs
 
--- src/main.rt:46:9
 end-line-requires : tie.Need-end-line-requires Inv-loop μ-loop
 end-line-requires c κs = search needs
 
--- src/main.rt:39:5
 loop-less : tie.Need-loop-less Inv-loop μ-loop
 loop-less c = search needs
 
--- src/main.rt:39:5
 loop-again : tie.Need-loop-again Inv-loop μ-loop
 loop-again c = search needs
 
--- src/main.rt:35:1
 returns : tie.Need-returns Inv-loop μ-loop
 returns c = search needs
 

@@ -1,35 +1,27 @@
+-- `mapping_test::k_secondary` meets its contract. The rows are those of a sound network.
+-- Assumes nothing.
 use Rattle.mapping_test.proofs.Networks.{k-secondary}
 use borrow.Author.Needs.{needs}
 use Rattle.mapping_test.proofs.k_secondary.Statement.{statement}
 use Rattle.mapping_test.proofs.k_secondary.Tie as tie
-use Rattle.mapping_test.proofs.k_secondary.Reads as reads
-use Rattle.mapping_test.proofs.k_secondary.Lts as lts
-use Rattle.mapping_test.proofs.genes_on.Reads as genes-on-reads
-use Rattle.mapping_test.proofs.row_of.Reads as row-of-reads
 
--- src/main.rt:103:14
 row-of-requires : tie.Need-row-of-requires
 row-of-requires c κs = search needs
 
--- src/main.rt:104:14
 row-of-requires-2 : tie.Need-row-of-requires-2
 row-of-requires-2 c κs = search needs
 
--- src/main.rt:105:18
 row-of-requires-3 : tie.Need-row-of-requires-3
 row-of-requires-3 c κs = search needs
 
--- src/main.rt:106:17
 row-of-requires-4 : tie.Need-row-of-requires-4
 row-of-requires-4 c κs = search needs
 
--- src/main.rt:107:5
 genes-on-requires : tie.Need-genes-on-requires
 genes-on-requires c κs =
     let s = c .before .before .before .before .before .before .before .before .pre in
     (rw (c .before .before .before .before .before .before .before .row-of .ensures, c .before .before .before .before .before .before .row-of2 .ensures, c .before .before .before .before .before .row-of3 .ensures) k-secondary, (s .0, search needs, search needs, s .1))
 
--- src/main.rt:100:1
 returns : tie.Need-returns
 returns c = search needs
 
