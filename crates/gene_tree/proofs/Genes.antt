@@ -3,22 +3,22 @@
 -- Assumes nothing.
 use mathlib.Core.Path.{_≡_, refl, sym, _∙_, ap}
 use mathlib.Core.Logic.{_≢_, _⊎_, inl, inr}
-use mathlib.Core.Bool.{Bool, true, false, _&&_}
+use mathlib.Core.Bool.{true, false}
 use mathlib.Core.List.{List}
 use Prim.Native.Nat.{ℕ, _≤_, _<_}
 use native.Mathlib.Omega.{arith}
 use Rattle.finite.specs.Tests.{same, under, tally}
-use Rattle.finite.specs.Range.{count, first}
+use Rattle.finite.specs.Range.{count}
 use Rattle.finite.specs.Tables.{at, within, filled}
-use Rattle.finite.proofs.Cases.{byBool, byEq, byLess, byOrder, clash}
-use Rattle.finite.proofs.Tests.{is-same, same-is, not-same, is-under, not-under, and-l, and-r, and-yes, and-no-l, tally-imp}
-use Rattle.finite.proofs.Count.{count-imp, count-less, count-is, count-one, count-some, count-zero, zero-count}
+use Rattle.finite.proofs.Cases.{byEq, byLess, byOrder, clash}
+use Rattle.finite.proofs.Tests.{is-same, same-is, not-same, is-under, not-under, and-r, tally-imp}
+use Rattle.finite.proofs.Count.{count-less, count-is, count-one, count-zero, zero-count}
 use Rattle.finite.proofs.Sum.{sum-le}
-use Rattle.finite.proofs.Every.{first-is, first-none, first-low}
+use Rattle.finite.proofs.Every.{first-low}
 use Rattle.finite.proofs.Tables.{within-in, within-zero, within-out, filled-within}
-use Rattle.topology.specs.Networks.{Network, Node}
+use Rattle.topology.specs.Networks.{Network}
 use Rattle.reconciliation.specs.GeneTrees.{GeneTree, Rooted, Seated}
-use Rattle.gene_tree.specs.Refusals.{isNext, next, isChild, childCount, geneFits, treeFits, bearer, seatsFit, geneVerdict}
+use Rattle.gene_tree.specs.Refusals.{isNext, next, isChild, childCount, geneFits, treeFits, geneVerdict}
 use lib.ListN.{length, replicate, length-replicate, getD-replicate, List·getD-eq-default}
 use Rattle.gene_tree.specs.Genes.{zeros, leftOf, rightOf, leafOf, geneTreeOf, leftTable, rightTable, leafTable}
 use Rattle.gene_tree.proofs.Refusals.{next-in, next-more, next-entry, next-none, gene-first, gene-some, gene-below, gene-two, tree-gene, bearer-in, seat-leaf, accept-tree, accept-seats}

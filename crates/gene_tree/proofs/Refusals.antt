@@ -1,16 +1,16 @@
 -- The tests of refusals 12 and 13 say what 01 says: a test over all genes that fails fails at some gene, and there one of its parts.
 -- Assumes nothing.
-use mathlib.Core.Path.{_≡_, refl, sym, _∙_}
+use mathlib.Core.Path.{_≡_, refl}
 use mathlib.Core.Logic.{_≢_}
-use mathlib.Core.Bool.{Bool, true, false, _&&_, _||_, not}
+use mathlib.Core.Bool.{true, false, _&&_, _||_, not}
 use mathlib.Core.List.{List}
 use Prim.Native.Nat.{ℕ, _≤_, _<_}
 use native.Mathlib.Omega.{arith}
 use Rattle.finite.specs.Tests.{same, under}
 use Rattle.finite.specs.Tables.{at}
-use Rattle.finite.proofs.Cases.{byBool, byEq, byLess, clash}
-use Rattle.finite.proofs.Tests.{is-same, same-is, not-same, same-not, is-under, under-is, not-under, under-not, and-l, and-r, and-no-l, and-no-r, and-yes, or-r, or-no-l, or-no-r, not-true, not-false}
-use Rattle.finite.proofs.Every.{every-at, every-fails, not-every, first-is, first-none}
+use Rattle.finite.proofs.Cases.{byBool, byEq, clash}
+use Rattle.finite.proofs.Tests.{is-same, same-is, not-same, same-not, is-under, under-is, under-not, and-l, and-r, and-yes, or-r, or-no-l, or-no-r, not-true, not-false}
+use Rattle.finite.proofs.Every.{every-at, not-every, first-is, first-none}
 use Rattle.gene_tree.specs.Refusals.{isNext, next, childCount, parentFits, childrenFit, geneFits, treeFits, NoTree, bearer, speciesFits, seatFits, seatsFit, NoSeat, geneVerdict}
 use Rattle.gene_tree.specs.Refusals.NoTree.{first-has-parent, no-parent, parent-not-below, children-amiss}
 use Rattle.gene_tree.specs.Refusals.NoSeat.{leaf-without-species, leaf-unknown, inner-with-species}

@@ -1,6 +1,6 @@
 // The gene tree's tables: refusals 12 and 13, the children of each gene and the node of each leaf gene. Entry g of a table is about gene g.
 ghost use mathlib.Core.Path.{_≡_};
-ghost use Prim.Native.Nat.{ℕ, _+_, _≤_, _<_};
+ghost use Prim.Native.Nat.{_+_, _≤_, _<_};
 ghost use Rattle.finite.specs.Tests.{tally};
 ghost use Rattle.finite.specs.Tables.{at};
 ghost use Rattle.gene_tree.specs.Refusals.{isNext, next, isChild, childCount, parentFits, childrenFit, geneFits, treeFits, bearer, speciesFits, seatFits, seatsFit, geneVerdict};

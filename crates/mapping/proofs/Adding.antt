@@ -1,15 +1,13 @@
 -- The turns of the loop that adds up the genes: after g genes the counts are those of the genes 1 to g, and the cost is their product with the costs.
 -- Assumes nothing.
-use mathlib.Core.Path.{_≡_, refl, sym, _∙_, ap}
-use mathlib.Core.Bool.{Bool, true, false}
+use mathlib.Core.Path.{_≡_, sym, _∙_, ap}
 use mathlib.Core.List.{List}
 use Prim.Native.Nat.{ℕ, _+_, _*_, _≤_, _<_}
 use native.Mathlib.Nat.{mul-add, mul-zero, mul-le-mul}
 use native.Mathlib.Omega.{arith}
 use Rattle.finite.specs.Tests.{same, tally}
 use Rattle.finite.specs.Range.{sum, count}
-use Rattle.finite.specs.Tables.{at}
-use Rattle.finite.proofs.Tests.{is-same, not-same, tally-le}
+use Rattle.finite.proofs.Tests.{is-same, not-same}
 use Rattle.finite.proofs.Sum.{sum-more, sum-bound, sum-zero-range}
 use Rattle.finite.proofs.Count.{count-start, count-turn, count-le}
 use Rattle.topology.specs.Networks.{Network}

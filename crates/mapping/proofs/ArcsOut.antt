@@ -1,17 +1,15 @@
 -- The turns of the pass that adds each on arc's weight to the node that it leaves: after v nodes each entry is the sum over these.
 -- Assumes nothing.
-use mathlib.Core.Path.{_≡_, refl, sym, _∙_, ap}
+use mathlib.Core.Path.{_≡_, sym, _∙_}
 use mathlib.Core.Logic.{_≢_}
-use mathlib.Core.Bool.{Bool, true, false, cond}
 use mathlib.Core.List.{List}
-use Prim.Native.Nat.{ℕ, _+_, _≤_, _<_}
+use Prim.Native.Nat.{ℕ, _+_, _≤_}
 use native.Mathlib.Omega.{arith}
 use lib.ListN.{length, set, length-set, replicate, length-replicate, getD-replicate, List·getD-eq-default}
 use lib.Seq.{getD-set-same, getD-set-other}
-use Rattle.finite.specs.Tests.{same}
 use Rattle.finite.specs.Range.{sum}
 use Rattle.finite.specs.Tables.{at}
-use Rattle.finite.proofs.Cases.{byBool, byEq, byLess}
+use Rattle.finite.proofs.Cases.{byEq, byLess}
 use Rattle.finite.proofs.Tests.{is-same, not-same}
 use Rattle.finite.proofs.Sum.{sum-more, sum-bound, sum-zero-range}
 use Rattle.finite.proofs.Tables.{filled-ext}

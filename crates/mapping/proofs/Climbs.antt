@@ -1,18 +1,17 @@
 -- The turns of the loops that climb a switched network: the tables hold its parents and heights, so a loop that steps to the table's parent takes
 -- the step of the definition.
 -- Assumes nothing.
-use mathlib.Core.Path.{_≡_, refl, sym, _∙_, ap, fun-ext}
+use mathlib.Core.Path.{_≡_, refl, sym, _∙_, ap}
 use mathlib.Core.Logic.{_≢_}
-use mathlib.Core.Bool.{Bool, true, false, cond, _&&_, not}
+use mathlib.Core.Bool.{true, cond}
 use mathlib.Core.List.{List}
-use Prim.Native.Nat.{ℕ, suc, _+_, _-_, _≤_, _<_}
+use Prim.Native.Nat.{ℕ, _+_, _-_, _≤_, _<_}
 use native.Mathlib.Omega.{arith}
 use Rattle.finite.specs.Tests.{same}
 use Rattle.finite.specs.Tables.{at}
 use Rattle.finite.proofs.Cases.{byBool, byEq, byLess}
-use Rattle.finite.proofs.Tests.{is-same, not-same, cond-same, tally-le}
-use Rattle.topology.specs.Climbing.{Falls, meet}
-use Rattle.topology.specs.Networks.{Network, Node, isReticulation}
+use Rattle.finite.proofs.Tests.{is-same, not-same, tally-le}
+use Rattle.topology.specs.Networks.{Network, isReticulation}
 use Rattle.topology.specs.Switchings.{parent, onSecondary, lca, above}
 use Rattle.topology.specs.Switchings as S
 use Rattle.topology.proofs.Above.{falls}

@@ -3,31 +3,29 @@
 -- Assumes nothing.
 use mathlib.Core.Path.{_≡_, refl, sym, _∙_, ap, fun-ext}
 use mathlib.Core.Logic.{_≢_}
-use mathlib.Core.Bool.{Bool, true, false, cond, _&&_, _||_, not}
+use mathlib.Core.Bool.{Bool, true, false, _&&_}
 use mathlib.Core.List.{List}
-use Prim.Native.Nat.{ℕ, zero, suc, _+_, _-_, _≤_, _<_}
+use Prim.Native.Nat.{ℕ, zero, suc, _-_, _≤_, _<_}
 use native.Mathlib.Omega.{arith}
 use Rattle.finite.specs.Tests.{same, tally}
-use Rattle.finite.specs.Range.{some, children, count, sum}
+use Rattle.finite.specs.Range.{some, children, count}
 use Rattle.finite.specs.Tables.{at, within}
-use Rattle.finite.proofs.Cases.{byBool, byEq, byLess, clash}
-use Rattle.finite.proofs.Tests.{is-same, not-same, tally-yes, tally-no, and-l, and-r}
+use Rattle.finite.proofs.Cases.{byBool, byEq, byLess}
+use Rattle.finite.proofs.Tests.{is-same, not-same, tally-yes, tally-no, and-r}
 use Rattle.finite.proofs.Every.{some-same}
-use Rattle.topology.specs.Climbing.{meet, along}
-use Rattle.topology.specs.Networks.{Network, Node, Sound, Reticulation, isReticulation}
+use Rattle.topology.specs.Networks.{Network, Node, Sound, isReticulation}
 use Rattle.topology.specs.Switchings.{Switching, onSecondary, parent, onArcs, lca}
 use Rattle.topology.specs.Switchings as S
-use Rattle.topology.proofs.Above.{parent-cases, falls, principal-node, reticulation-is}
+use Rattle.topology.proofs.Above.{parent-cases, falls, reticulation-is}
 use Rattle.topology.proofs.Lca.{node-parent}
-use Rattle.reconciliation.specs.GeneTrees.{GeneTree, Rooted, Seated}
-use Rattle.reconciliation.specs.Mapping.{Costs, placeIn, place, forks, sendsSecondary, isDuplication, event, transfers, passed, leaves, losses, duplicationCount, transferCount, lossCount, lcaCost}
+use Rattle.reconciliation.specs.GeneTrees.{GeneTree}
+use Rattle.reconciliation.specs.Mapping.{placeIn, place, forks, sendsSecondary, isDuplication, event, transfers, passed, leaves, losses, duplicationCount, transferCount, lossCount, lcaCost}
 use Rattle.gene_tree.specs.Refusals.{geneVerdict}
 use Rattle.gene_tree.specs.Genes.{geneTreeOf, leftTable, rightTable, leafTable}
 use Rattle.gene_tree.proofs.Genes.{left-held, right-held, leaf-held, rooted, seated}
 use Rattle.mapping.specs.Switched.{switchedOf, taken, Switched, Held}
 use Rattle.mapping.specs.Genes.{genesOf, Family}
 use Rattle.mapping.specs.Score.{scoreOf}
-use Rattle.mapping.specs.declared.Score.{Score}
 use Rattle.mapping.specs.declared.UnitCosts.{UnitCosts}
 use Rattle.mapping.proofs.Climbs.{parent-is}
 

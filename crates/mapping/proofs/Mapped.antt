@@ -1,34 +1,34 @@
 -- What the tables give for each gene is what crate reconciliation defines: the tables hold the places, so each of its definitions reads the same
 -- numbers. Sums along a way are compared as sums over the nodes of the way.
 -- Assumes nothing.
-use mathlib.Core.Path.{_≡_, refl, sym, _∙_, ap, fun-ext}
+use mathlib.Core.Path.{_≡_, refl, sym, _∙_, fun-ext}
 use mathlib.Core.Logic.{_≢_}
-use mathlib.Core.Bool.{Bool, true, false, cond, _&&_, _||_, not}
+use mathlib.Core.Bool.{Bool, true, false, cond, _||_, not}
 use mathlib.Core.List.{List}
-use Prim.Native.Nat.{ℕ, _+_, _≤_, _<_}
+use Prim.Native.Nat.{ℕ, _≤_}
 use native.Mathlib.Omega.{arith}
 use Rattle.finite.specs.Tests.{same, tally}
-use Rattle.finite.specs.Range.{sum, count, children}
+use Rattle.finite.specs.Range.{count, children}
 use Rattle.finite.specs.Tables.{at, filled}
 use Rattle.finite.proofs.Cases.{byBool, byEq, byLess, clash}
-use Rattle.finite.proofs.Tests.{is-same, same-is, not-same, tally-le}
+use Rattle.finite.proofs.Tests.{is-same, not-same, tally-le}
 use Rattle.finite.proofs.Sum.{sum-same, sum-zero, sum-at}
 use Rattle.finite.proofs.Tables.{filled-in, filled-out, filled-zero}
 use Rattle.topology.specs.Climbing.{along}
-use Rattle.topology.specs.Networks.{Network, Node, isReticulation}
-use Rattle.topology.specs.Switchings.{parent, onSecondary, onArcs, above}
+use Rattle.topology.specs.Networks.{Network, Node}
+use Rattle.topology.specs.Switchings.{parent, onSecondary, onArcs}
 use Rattle.topology.specs.Switchings as S
 use Rattle.reconciliation.specs.GeneTrees.{GeneTree}
 use Rattle.reconciliation.specs.Mapping.{place, forks, sendsSecondary, isDuplication, event, transfers, passed, leaves, losses}
 use Rattle.reconciliation.proofs.Places.{child-gene, parent-gene, place-node, parent-above}
 use Rattle.reconciliation.proofs.Events.{SendsSecondary, sends-is, is-sends, event-test}
-use Rattle.reconciliation.proofs.Ways.{onWay, along-sum, higher, higher-node}
+use Rattle.reconciliation.proofs.Ways.{along-sum}
 use Rattle.reconciliation.proofs.Bounds.{transfers-le, losses-le}
 use Rattle.gene_tree.specs.Genes.{zeros}
 use Rattle.gene_tree.proofs.Genes.{zeros-at, zeros-long}
 use Rattle.mapping.specs.Switched.{switchedOf, taken, Switched, Below, weighs, leavingFrom, leavingTable, ones, forkMark, forkTable, forksTable}
-use Rattle.mapping.specs.Genes.{genesOf, Family, Coming, eventFrom, eventAt, leavesFrom, wayOf, betweenOf, transfersAt, lossesFrom, lossesAt, placeTable, eventTable}
-use Rattle.mapping.proofs.Climbs.{parent-is, up-low, on-low, below-up}
+use Rattle.mapping.specs.Genes.{genesOf, Family, Coming, childHere, eventFrom, eventAt, leavesFrom, wayOf, betweenOf, transfersAt, lossesFrom, lossesAt, placeTable, eventTable}
+use Rattle.mapping.proofs.Climbs.{parent-is, below-up}
 use Rattle.mapping.proofs.ArcsOut.{ones-at, hit, miss}
 
 -- a table filled from zeros holds f at 1..k and 0 elsewhere, so it holds what f is bounded by
@@ -45,10 +45,10 @@ module _ (left right table sent : List ℕ) (g : ℕ) where
   unfolding eventAt
   event-none e = rw (is-same e)
 
-  pub event-read : (l r p e : ℕ) → (at left g ≡ 0 → ⊥) → l ≡ at left g → r ≡ at right g → p ≡ at table g → e ≡ eventFrom (at table g) (at table l) (at table r) (at sent p)
+  pub event-read : (l r p h e : ℕ) → (at left g ≡ 0 → ⊥) → l ≡ at left g → r ≡ at right g → p ≡ at table g → h ≡ childHere (at table g) (at table l) (at table r) → e ≡ eventFrom h (at sent p)
       → e ≡ eventAt left right table sent g
   unfolding eventAt
-  event-read l r p e d el er ep ee = rw (not-same d) (ee ∙ rw (el, er, ep))
+  event-read l r p h e d el er ep eh ee = rw (not-same d) (ee ∙ rw (eh, el, er, ep))
 
 module _ (n : ℕ) (up on height mother table : List ℕ) (g : ℕ) where
   pub transfers-read : (q b x r : ℕ) → q ≡ at mother g → (q ≡ 0 → ⊥) → b ≡ at table q → x ≡ at table g → r ≡ wayOf n up on height on b x
@@ -134,7 +134,7 @@ module _ (n : ℕ) (up on height : List ℕ) (m : ℕ) (left right leaf mother :
 
   -- the event is the definition's
   pub event-held : (g : ℕ) → 1 ≤ g → g ≤ m → eventAt left right P (leavingTable n up on) g ≡ event M G taken g
-  unfolding eventAt eventFrom event isDuplication genesOf switchedOf
+  unfolding eventAt eventFrom childHere event isDuplication genesOf switchedOf
   event-held g l u = byEq (at left g) 0 (λ e. rw (is-same e))
       (λ d. rw (
         not-same d,
@@ -144,9 +144,10 @@ module _ (n : ℕ) (up on height : List ℕ) (m : ℕ) (left right leaf mother :
         sent-at n up on height T (place M G taken g) (seat g l u .low) (omega (arith, seat g l u .high, T .few)),
       ) (turned (same (place M G taken (at left g)) (place M G taken g) || same (place M G taken (at right g)) (place M G taken g)) (sendsSecondary M taken (place M G taken g))))
     where
-      turned : (a b : Bool) → _≡_ {A = ℕ} (cond a 2 (cond (not b) 1 3)) (cond a 2 (cond b 3 1))
-      turned a true = refl
-      turned a false = refl
+      turned : (a b : Bool) → _≡_ {A = ℕ} (cond (same (tally a) 0) (cond (not b) 1 3) 2) (cond a 2 (cond b 3 1))
+      turned true b = rw (not-same {m = 1} {n = 0} (omega arith))
+      turned false true = rw (is-same {m = 0} refl)
+      turned false false = rw (is-same {m = 0} refl)
 
   -- the way of a gene that has a parent
   module _ (g : ℕ) (d : at mother g ≢ 0) where

@@ -1,18 +1,16 @@
 -- The turns of the loop that places the genes from the highest number down: a gene's children have higher numbers, so their places stand already.
 -- Assumes nothing.
-use mathlib.Core.Path.{_≡_, refl, sym, _∙_, ap}
+use mathlib.Core.Path.{_≡_, sym, _∙_}
 use mathlib.Core.Logic.{_≢_}
-use mathlib.Core.Bool.{Bool, true, false, cond}
 use mathlib.Core.List.{List}
-use Prim.Native.Nat.{ℕ, _+_, _-_, _≤_, _<_}
+use Prim.Native.Nat.{ℕ, _-_, _≤_, _<_}
 use native.Mathlib.Omega.{arith}
 use lib.ListN.{length, set, length-set}
 use lib.Seq.{getD-set-same, getD-set-other}
-use Rattle.finite.specs.Tests.{same}
-use Rattle.finite.specs.Tables.{at, filled}
+use Rattle.finite.specs.Tables.{at}
 use Rattle.finite.proofs.Cases.{byEq, byLess}
 use Rattle.finite.proofs.Tests.{is-same, not-same}
-use Rattle.finite.proofs.Tables.{filled-ext, filled-in, filled-out, filled-zero}
+use Rattle.finite.proofs.Tables.{filled-ext}
 use Rattle.topology.specs.Networks.{Network}
 use Rattle.topology.specs.Switchings.{lca}
 use Rattle.reconciliation.specs.GeneTrees.{GeneTree}

@@ -3,27 +3,26 @@
 -- Assumes nothing.
 use mathlib.Core.Path.{_≡_, refl, sym, _∙_, ap}
 use mathlib.Core.Logic.{_≢_, _⊎_, inl, inr}
-use mathlib.Core.Bool.{Bool, true, false, cond, _&&_, not}
+use mathlib.Core.Bool.{Bool, true, false, _&&_}
 use mathlib.Core.List.{List}
-use Prim.Native.Nat.{ℕ, zero, suc, _+_, _*_, _-_, _/_, _%_, _^_, _≤_, _<_}
+use Prim.Native.Nat.{ℕ, _+_, _-_, _/_, _%_, _^_, _≤_, _<_}
 use native.Mathlib.Nat.{mod-lt}
 use native.Mathlib.Omega.{arith}
 use Rattle.finite.specs.Tests.{same, under, tally}
-use Rattle.finite.specs.Range.{sum, count}
-use Rattle.finite.specs.Tables.{at, filled, within}
-use Rattle.finite.proofs.Cases.{byBool, byEq, byLess, byOrder, clash}
-use Rattle.finite.proofs.Tests.{is-same, same-is, not-same, is-under, not-under, and-no-r, tally-yes, tally-no}
+use Rattle.finite.specs.Range.{count}
+use Rattle.finite.specs.Tables.{at}
+use Rattle.finite.proofs.Cases.{byBool, byEq, byLess, byOrder}
+use Rattle.finite.proofs.Tests.{is-same, not-same, is-under, not-under, and-no-r, tally-yes, tally-no}
 use Rattle.finite.proofs.Sum.{sum-add, sum-same}
 use Rattle.finite.proofs.Count.{count-is, count-some}
 use Rattle.finite.proofs.Tables.{within-in, within-zero, within-out}
-use Rattle.topology.specs.Networks.{Network, Node, Sound, Reticulation, isReticulation}
+use Rattle.topology.specs.Networks.{Network, Node, Sound, isReticulation}
 use Rattle.topology.specs.Switchings.{Switching, onSecondary, parent}
 use Rattle.topology.specs.Switchings as S
 use Rattle.topology.specs.Components.{component, memberOf, members, indexOf, membersAfter, settingOf}
 use Rattle.topology.specs.Tables.{rankFrom, networkOf}
 use Rattle.topology.proofs.Above.{reticulation-node, parent-plain}
 use Rattle.topology.proofs.Components.{member-is, is-member}
-use Rattle.gene_tree.specs.Genes.{zeros}
 use Rattle.gene_tree.proofs.Genes.{zeros-filled}
 use Rattle.mapping.specs.Switched.{Held}
 use Rattle.mapping.specs.Settings.{bitOf, markFrom, markAt, markTable, Parted, Numbered, upFrom, upAt, upTable}
@@ -136,9 +135,9 @@ module _ (n : ℕ) (principal secondary stamp : List ℕ) (few : n ≤ 127) (ok 
       top-in = low;
       few = omega (arith, P .sizes c kc);
       indexed = λ r l u d e.
-        let z : N .secondary r ≢ 0 = rw (secondary-is r l u) d in
-        let t : memberOf N c r ≡ true = is-member N c r z (sym (P .tops r (node-of r l u)) ∙ e) in
-        omega (arith, P .sizes c kc, P .indices r z, members-split N ok c r t);
+          let z : N .secondary r ≢ 0 = rw (secondary-is r l u) d in
+          let t : memberOf N c r ≡ true = is-member N c r z (sym (P .tops r (node-of r l u)) ∙ e) in
+          omega (arith, P .sizes c kc, P .indices r z, members-split N ok c r t);
     }
 
   -- the on parents by the marks

@@ -1,9 +1,8 @@
 -- A gene tree on a switched network as tables hold it, and what the tables give for each gene: its place from its children's, its event, the
 -- transfers and losses on its way. Each equals the definition of crate reconciliation (proofs/Mapped).
 -- Assumes nothing.
-use mathlib.Core.Path.{_≡_}
 use mathlib.Core.Logic.{_≢_}
-use mathlib.Core.Bool.{Bool, cond, _&&_, _||_, not}
+use mathlib.Core.Bool.{cond, _&&_, _||_, not}
 use mathlib.Core.List.{List}
 use Prim.Native.Nat.{ℕ, _+_, _≤_}
 use Rattle.finite.specs.Tests.{same, tally}
@@ -42,13 +41,18 @@ pub record Coming (n : ℕ) (up on height mother place : List ℕ) (g : ℕ) : T
   pub mother-in : at mother g ≢ 0 → at mother g ≤ 127
   pub below : at mother g ≢ 0 → Below n up on height (at place (at mother g)) (at place g)
 
--- the event of an inner gene at p whose children sit at pl and pr; `sent` is how many on secondary arcs leave p
-unfoldable pub eventFrom : (p pl pr sent : ℕ) → ℕ
-eventFrom p pl pr sent = cond (same pl p || same pr p) 2 (cond (same sent 0) 1 3)
+-- 1 where a child of a gene at p, the children at pl and pr, sits where the gene sits
+unfoldable pub childHere : (p pl pr : ℕ) → ℕ
+childHere p pl pr = tally (same pl p || same pr p)
+
+-- the event of an inner gene, by that and by how many on secondary arcs leave its place: "2 duplication, when a child sits at the same node;
+-- otherwise 3 transfer, if one of the node's two on arcs is secondary, else 1 speciation"
+unfoldable pub eventFrom : (here sent : ℕ) → ℕ
+eventFrom here sent = cond (same here 0) (cond (same sent 0) 1 3) 2
 
 unfoldable pub eventAt : (left right place sent : List ℕ) → ℕ → ℕ
 eventAt left right place sent g =
-    cond (same (at left g) 0) 0 (eventFrom (at place g) (at place (at left g)) (at place (at right g)) (at sent (at place g)))
+    cond (same (at left g) 0) 0 (eventFrom (childHere (at place g) (at place (at left g)) (at place (at right g))) (at sent (at place g)))
 
 -- one more loss below a duplication, for a gene at x whose parent gene is at b with event e
 unfoldable pub leavesFrom : (e b x : ℕ) → ℕ

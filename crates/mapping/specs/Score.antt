@@ -1,6 +1,5 @@
 -- The counts of events over all genes and the last-common-ancestor cost, as one value.
 -- Assumes nothing.
-use mathlib.Core.Path.{_≡_}
 use Prim.Native.Nat.{ℕ, _+_, _*_, _≤_}
 use Rattle.finite.specs.Tests.{same, tally}
 use Rattle.topology.specs.Networks.{Network}

@@ -2,7 +2,7 @@
 -- Assumes nothing.
 use mathlib.Core.Path.{_≡_}
 use mathlib.Core.Logic.{_≢_}
-use mathlib.Core.Bool.{Bool, cond, _&&_, not}
+use mathlib.Core.Bool.{cond, _&&_, not}
 use mathlib.Core.List.{List}
 use Prim.Native.Nat.{ℕ, _-_, _/_, _%_, _^_, _≤_, _<_}
 use Rattle.finite.specs.Tests.{same}

@@ -3,9 +3,9 @@
 -- the switching that the tables were made of.
 -- Assumes nothing.
 use mathlib.Core.Path.{_≡_}
-use mathlib.Core.Bool.{Bool, true, cond}
+use mathlib.Core.Bool.{true, cond}
 use mathlib.Core.List.{List}
-use Prim.Native.Nat.{ℕ, _+_, _-_, _≤_, _<_}
+use Prim.Native.Nat.{ℕ, _-_, _≤_, _<_}
 use lib.ListN.{replicate}
 use Rattle.finite.specs.Tests.{same, tally}
 use Rattle.finite.specs.Range.{sum}

@@ -3,14 +3,13 @@
 // `left` and `right`, the children; `leaf`, the node of a leaf gene; `mother`, the parent gene.
 ghost use mathlib.Core.Path.{_≡_};
 ghost use mathlib.Core.Logic.{_≢_};
-ghost use mathlib.Core.Bool.{true};
-ghost use Prim.Native.Nat.{ℕ, _+_, _-_, _^_, _≤_, _<_};
+ghost use Prim.Native.Nat.{ℕ, _+_, _-_, _≤_, _<_};
 ghost use Rattle.finite.specs.Tests.{same, tally};
 ghost use Rattle.finite.specs.Tables.{at};
 ghost use Rattle.topology.specs.Switchings.{lca};
-ghost use Rattle.mapping.specs.Switched.{switchedOf, taken, Switched, Below, weighs, leavingFrom, leavingTable, forkMark, forkTable, forksTable};
-ghost use Rattle.mapping.specs.Settings.{bitOf, markFrom, markAt, markTable, Numbered, upFrom, upAt, upTable};
-ghost use Rattle.mapping.specs.Genes.{genesOf, Family, Kin, Ready, Coming, placeAt, eventFrom, eventAt, leavesFrom, wayOf, betweenOf, lossesFrom, transfersAt, lossesAt, placeTable, eventTable, transferTable, lossTable};
+ghost use Rattle.mapping.specs.Switched.{switchedOf, taken, Switched, Below, leavingTable, forkTable, forksTable};
+ghost use Rattle.mapping.specs.Settings.{bitOf, markFrom, markTable, Numbered, upFrom, upTable};
+ghost use Rattle.mapping.specs.Genes.{genesOf, Family, Kin, Ready, Coming, placeAt, childHere, eventFrom, eventAt, leavesFrom, wayOf, betweenOf, lossesFrom, transfersAt, lossesAt, placeTable, eventTable, transferTable, lossTable};
 ghost use Rattle.mapping.specs.Score.{Cheap, Room, chargedBy, scoreOf};
 
 fn wide(x: u32) -> usize
@@ -209,7 +208,8 @@ fn between(
     if x == b {
         return 0;
     }
-    way(n, up, on, height, marks, b, wide(up[x]))
+    let a = wide(up[x]);
+    way(n, up, on, height, marks, b, a)
 }
 
 // The place of gene g, from the places of its children.
@@ -262,14 +262,25 @@ pub fn places(
     out
 }
 
-// The event of an inner gene at p whose children sit at pl and pr, with so many on secondary arcs leaving p.
-fn event_of(p: u32, pl: u32, pr: u32, sent: u32) -> u32
-    ensures { λ r. ⌜ r ≡ eventFrom p pl pr sent ⌝ }
+// 1 where a child of a gene at p, the children at pl and pr, sits where the gene sits, else 0.
+fn child_here(p: u32, pl: u32, pr: u32) -> u32
+    ensures { λ r. ⌜ r ≡ childHere p pl pr ⌝ }
 {
     if pl == p {
-        return 2;
+        return 1;
     }
     if pr == p {
+        return 1;
+    }
+    0
+}
+
+// The event of an inner gene, by whether a child sits where it sits and how many on secondary arcs leave its place: duplication, else
+// speciation or transfer.
+fn event_of(here: u32, sent: u32) -> u32
+    ensures { λ r. ⌜ r ≡ eventFrom here sent ⌝ }
+{
+    if here != 0 {
         return 2;
     }
     if sent == 0 {
@@ -294,7 +305,7 @@ fn event_at(
     let l = wide(left[g]);
     let r = wide(right[g]);
     let p = wide(place[g]);
-    event_of(place[g], place[l], place[r], sent[p])
+    event_of(child_here(place[g], place[l], place[r]), sent[p])
 }
 
 // The event of each gene, from the places and from how many on secondary arcs leave each node.

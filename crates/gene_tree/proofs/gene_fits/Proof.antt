@@ -1,45 +1,33 @@
-use Rattle.finite.proofs.Tests.{is-same, not-same, is-under, not-under, and-no-r, and-yes, told-same, told-other, told-not-yes, told-not-no}
+-- `gene_tree::gene_fits` meets its contract. What the two callees tell is the conjunction.
+-- Assumes nothing.
+use Rattle.finite.proofs.Tests.{told-not-yes, told-not-no}
 use Rattle.gene_tree.specs.Refusals.{geneFits}
 use borrow.Author.Needs.{needs}
 use Rattle.gene_tree.proofs.gene_fits.Statement.{statement}
 use Rattle.gene_tree.proofs.gene_fits.Tie as tie
-use Rattle.gene_tree.proofs.gene_fits.Reads as reads
-use Rattle.gene_tree.proofs.gene_fits.Lts as lts
-use Rattle.gene_tree.proofs.child_count.Reads as child-count-reads
-use Rattle.gene_tree.proofs.children_fit.Reads as children-fit-reads
-use Rattle.gene_tree.proofs.parent_fits.Reads as parent-fits-reads
-use Rattle.gene_tree.proofs.wide.Reads as wide-reads
 
--- src/lib.rt:94:29
 mul-wide : tie.Need-mul-wide
 mul-wide c = search needs
 
--- src/lib.rt:94:29
 element-copy-out-wide : tie.Need-element-copy-out-wide
 element-copy-out-wide c = search needs
 
--- src/lib.rt:94:24
 wide-requires : tie.Need-wide-requires
 wide-requires c κs = search needs
 
--- src/lib.rt:94:9
 parent-fits-requires : tie.Need-parent-fits-requires
 parent-fits-requires c κs = search needs
 
--- src/lib.rt:95:9
 returns : tie.Need-returns
 unfolding geneFits
 returns c = rw (← c .before .before .wide .ensures, told-not-no _ _ (c .before .parent-fits .ensures) (c .if1 .taken))
 
--- src/lib.rt:97:18
 child-count-requires : tie.Need-child-count-requires
 child-count-requires c κs = search needs
 
--- src/lib.rt:97:5
 children-fit-requires : tie.Need-children-fit-requires
 children-fit-requires c κs = search needs
 
--- src/lib.rt:90:1
 returns-2 : tie.Need-returns-2
 unfolding geneFits
 returns-2 c = rw (← c .before .before .before .before .wide .ensures, told-not-yes _ _ (c .before .before .before .parent-fits .ensures) (c .before .before .if1 .left), ← c .before .child-count .ensures) (c .children-fit .ensures)

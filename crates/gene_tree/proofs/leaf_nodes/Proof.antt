@@ -1,4 +1,6 @@
-use Prim.Native.Nat.{ℕ, _+_, _-_, _≤_}
+-- `gene_tree::leaf_nodes` meets its contract. The invariant: the entries passed are filled.
+-- Assumes nothing.
+use Prim.Native.Nat.{_-_, _≤_}
 use mathlib.Core.Path.{_≡_}
 use Rattle.finite.specs.Tables.{filled}
 use Rattle.finite.proofs.Tables.{fill-loop}
@@ -6,9 +8,6 @@ use Rattle.gene_tree.specs.Genes.{zeros, leafOf, leafTable}
 use borrow.Author.Needs.{needs}
 use Rattle.gene_tree.proofs.leaf_nodes.Statement.{statement}
 use Rattle.gene_tree.proofs.leaf_nodes.Tie as tie
-use Rattle.gene_tree.proofs.leaf_nodes.Reads as reads
-use Rattle.gene_tree.proofs.leaf_nodes.Lts as lts
-use Rattle.gene_tree.proofs.leaf_of.Reads as leaf-of-reads
 
 abbrev Inv-loop : tie.InvT-loop
 Inv-loop m species n borne out₀ g₀ out g = (g ≤ m) × (out ≡ filled g zeros (leafOf n species borne))
@@ -16,36 +15,28 @@ Inv-loop m species n borne out₀ g₀ out g = (g ≤ m) × (out ≡ filled g ze
 abbrev μ-loop : tie.MeasureT-loop
 μ-loop m species n borne out₀ g₀ out g = m - g
 
--- src/lib.rt:230:5
 loop-holds : tie.Need-loop-holds Inv-loop μ-loop
 unfolding zeros
 loop-holds c = search (needs, fill-loop)
 
--- src/lib.rt:231:17
 add-w : tie.Need-add-w Inv-loop μ-loop
 add-w c = search needs
 
--- src/lib.rt:232:18
 leaf-of-requires : tie.Need-leaf-of-requires Inv-loop μ-loop
 leaf-of-requires c κs = search needs
 
--- src/lib.rt:232:9
 mul-out : tie.Need-mul-out Inv-loop μ-loop
 mul-out c = search needs
 
--- src/lib.rt:232:9
 array-write-out : tie.Need-array-write-out Inv-loop μ-loop
 array-write-out c = search needs
 
--- src/lib.rt:230:5
 loop-less : tie.Need-loop-less Inv-loop μ-loop
 loop-less c = search needs
 
--- src/lib.rt:230:5
 loop-again : tie.Need-loop-again Inv-loop μ-loop
 loop-again c = search (needs, fill-loop)
 
--- src/lib.rt:224:1
 returns : tie.Need-returns Inv-loop μ-loop
 unfolding leafTable
 returns c = search (needs, fill-loop)

@@ -1,4 +1,6 @@
-use Prim.Native.Nat.{ℕ, _+_, _-_, _≤_}
+-- `gene_tree::right_children` meets its contract. The invariant: the entries passed are filled.
+-- Assumes nothing.
+use Prim.Native.Nat.{_-_, _≤_}
 use mathlib.Core.Path.{_≡_}
 use Rattle.finite.specs.Tables.{filled}
 use Rattle.finite.proofs.Tables.{fill-loop}
@@ -6,9 +8,6 @@ use Rattle.gene_tree.specs.Genes.{zeros, rightOf, rightTable}
 use borrow.Author.Needs.{needs}
 use Rattle.gene_tree.proofs.right_children.Statement.{statement}
 use Rattle.gene_tree.proofs.right_children.Tie as tie
-use Rattle.gene_tree.proofs.right_children.Reads as reads
-use Rattle.gene_tree.proofs.right_children.Lts as lts
-use Rattle.gene_tree.proofs.right_of.Reads as right-of-reads
 
 abbrev Inv-loop : tie.InvT-loop
 Inv-loop m parent out₀ g₀ out g = (g ≤ m) × (out ≡ filled g zeros (rightOf m parent))
@@ -16,36 +15,28 @@ Inv-loop m parent out₀ g₀ out g = (g ≤ m) × (out ≡ filled g zeros (righ
 abbrev μ-loop : tie.MeasureT-loop
 μ-loop m parent out₀ g₀ out g = m - g
 
--- src/lib.rt:208:5
 loop-holds : tie.Need-loop-holds Inv-loop μ-loop
 unfolding zeros
 loop-holds c = search (needs, fill-loop)
 
--- src/lib.rt:209:17
 add-w : tie.Need-add-w Inv-loop μ-loop
 add-w c = search needs
 
--- src/lib.rt:210:18
 right-of-requires : tie.Need-right-of-requires Inv-loop μ-loop
 right-of-requires c κs = search needs
 
--- src/lib.rt:210:9
 mul-out : tie.Need-mul-out Inv-loop μ-loop
 mul-out c = search needs
 
--- src/lib.rt:210:9
 array-write-out : tie.Need-array-write-out Inv-loop μ-loop
 array-write-out c = search needs
 
--- src/lib.rt:208:5
 loop-less : tie.Need-loop-less Inv-loop μ-loop
 loop-less c = search needs
 
--- src/lib.rt:208:5
 loop-again : tie.Need-loop-again Inv-loop μ-loop
 loop-again c = search (needs, fill-loop)
 
--- src/lib.rt:202:1
 returns : tie.Need-returns Inv-loop μ-loop
 unfolding rightTable
 returns c = search (needs, fill-loop)

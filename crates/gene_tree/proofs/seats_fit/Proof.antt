@@ -1,4 +1,6 @@
-use Prim.Native.Nat.{ℕ, _+_, _-_, _≤_}
+-- `gene_tree::seats_fit` meets its contract. The invariant: each gene passed has its seat.
+-- Assumes nothing.
+use Prim.Native.Nat.{_-_, _≤_}
 use mathlib.Core.Path.{_≡_}
 use mathlib.Core.Bool.{true}
 use Rattle.finite.specs.Range.{every}
@@ -7,9 +9,6 @@ use Rattle.gene_tree.specs.Refusals.{seatFits, seatsFit}
 use borrow.Author.Needs.{needs}
 use Rattle.gene_tree.proofs.seats_fit.Statement.{statement}
 use Rattle.gene_tree.proofs.seats_fit.Tie as tie
-use Rattle.gene_tree.proofs.seats_fit.Reads as reads
-use Rattle.gene_tree.proofs.seats_fit.Lts as lts
-use Rattle.gene_tree.proofs.seat_fits.Reads as seat-fits-reads
 
 abbrev Inv-loop : tie.InvT-loop
 Inv-loop n m parent species borne g₀ g = (g ≤ m) × (every g (seatFits n m parent species borne) ≡ true)
@@ -17,36 +16,28 @@ Inv-loop n m parent species borne g₀ g = (g ≤ m) × (every g (seatFits n m p
 abbrev μ-loop : tie.MeasureT-loop
 μ-loop n m parent species borne g₀ g = m - g
 
--- src/lib.rt:149:5
 loop-holds : tie.Need-loop-holds Inv-loop μ-loop
 loop-holds c = search (needs, every-loop)
 
--- src/lib.rt:150:53
 add-seat-fits : tie.Need-add-seat-fits Inv-loop μ-loop
 add-seat-fits c = search needs
 
--- src/lib.rt:150:13
 seat-fits-requires : tie.Need-seat-fits-requires Inv-loop μ-loop
 seat-fits-requires c κs = search needs
 
--- src/lib.rt:151:13
 returns : tie.Need-returns Inv-loop μ-loop
 unfolding seatsFit
 returns c = search (needs, every-loop)
 
--- src/lib.rt:153:9
 add-g : tie.Need-add-g Inv-loop μ-loop
 add-g c = search needs
 
--- src/lib.rt:149:5
 loop-less : tie.Need-loop-less Inv-loop μ-loop
 loop-less c = search needs
 
--- src/lib.rt:149:5
 loop-again : tie.Need-loop-again Inv-loop μ-loop
 loop-again c = search (needs, every-loop)
 
--- src/lib.rt:144:1
 returns-2 : tie.Need-returns-2 Inv-loop μ-loop
 unfolding seatsFit
 returns-2 c = search (needs, every-loop)

@@ -1,4 +1,6 @@
-use Prim.Native.Nat.{ℕ, _+_, _-_, _≤_}
+-- `mapping::common` meets its contract. The invariant: the two climbers have the common node of x and y; the measure is the sum of their heights.
+-- Assumes nothing.
+use Prim.Native.Nat.{_+_, _-_, _≤_}
 use mathlib.Core.Path.{_≡_}
 use Rattle.topology.specs.Switchings.{lca}
 use Rattle.topology.specs.Switchings as S
@@ -7,9 +9,6 @@ use Rattle.mapping.proofs.Climbs.{meet-loop}
 use borrow.Author.Needs.{needs}
 use Rattle.mapping.proofs.common.Statement.{statement}
 use Rattle.mapping.proofs.common.Tie as tie
-use Rattle.mapping.proofs.common.Reads as reads
-use Rattle.mapping.proofs.common.Lts as lts
-use Rattle.mapping.proofs.wide.Reads as wide-reads
 
 abbrev Inv-loop : tie.InvT-loop
 Inv-loop n up on height x y a₀ b₀ a b = (a ≤ n) × (b ≤ n) × (lca (switchedOf n up on height) taken x y ≡ lca (switchedOf n up on height) taken a b)
@@ -17,67 +16,51 @@ Inv-loop n up on height x y a₀ b₀ a b = (a ≤ n) × (b ≤ n) × (lca (swit
 abbrev μ-loop : tie.MeasureT-loop
 μ-loop n up on height x y a₀ b₀ a b = S.height (switchedOf n up on height) a + S.height (switchedOf n up on height) b
 
--- src/lib.rt:96:5
 loop-holds : tie.Need-loop-holds Inv-loop μ-loop
 loop-holds c = search needs
 
--- src/lib.rt:97:12
 mul-if1 : tie.Need-mul-if1 Inv-loop μ-loop
 mul-if1 c = search needs
 
--- src/lib.rt:97:12
 element-copy-out-if1 : tie.Need-element-copy-out-if1 Inv-loop μ-loop
 element-copy-out-if1 c = search needs
 
--- src/lib.rt:97:24
 mul-if1-2 : tie.Need-mul-if1-2 Inv-loop μ-loop
 mul-if1-2 c = search needs
 
--- src/lib.rt:97:24
 element-copy-out-if1-2 : tie.Need-element-copy-out-if1-2 Inv-loop μ-loop
 element-copy-out-if1-2 c = search needs
 
--- src/lib.rt:98:22
 mul-wide : tie.Need-mul-wide Inv-loop μ-loop
 mul-wide c = search needs
 
--- src/lib.rt:98:22
 element-copy-out-wide : tie.Need-element-copy-out-wide Inv-loop μ-loop
 element-copy-out-wide c = search needs
 
--- src/lib.rt:98:13
 wide-requires : tie.Need-wide-requires Inv-loop μ-loop
 wide-requires c κs = search needs
 
--- src/lib.rt:96:5
 loop-less : tie.Need-loop-less Inv-loop μ-loop
 loop-less c = search (needs, meet-loop)
 
--- src/lib.rt:96:5
 loop-again : tie.Need-loop-again Inv-loop μ-loop
 loop-again c = search (needs, meet-loop)
 
--- src/lib.rt:100:22
 mul-wide-2 : tie.Need-mul-wide-2 Inv-loop μ-loop
 mul-wide-2 c = search needs
 
--- src/lib.rt:100:22
 element-copy-out-wide-2 : tie.Need-element-copy-out-wide-2 Inv-loop μ-loop
 element-copy-out-wide-2 c = search needs
 
--- src/lib.rt:100:13
 wide-requires-2 : tie.Need-wide-requires-2 Inv-loop μ-loop
 wide-requires-2 c κs = search needs
 
--- src/lib.rt:96:5
 loop-less-2 : tie.Need-loop-less-2 Inv-loop μ-loop
 loop-less-2 c = search (needs, meet-loop)
 
--- src/lib.rt:96:5
 loop-again-2 : tie.Need-loop-again-2 Inv-loop μ-loop
 loop-again-2 c = search (needs, meet-loop)
 
--- src/lib.rt:89:1
 returns : tie.Need-returns Inv-loop μ-loop
 returns c = search (needs, meet-loop)
 

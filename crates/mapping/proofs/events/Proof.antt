@@ -1,4 +1,6 @@
-use Prim.Native.Nat.{ℕ, _+_, _-_, _≤_}
+-- `mapping::events` meets its contract. The invariant: the entries passed are filled.
+-- Assumes nothing.
+use Prim.Native.Nat.{_+_, _-_, _≤_}
 use mathlib.Core.Path.{_≡_}
 use native.Mathlib.Omega.{arith}
 use Rattle.finite.specs.Tables.{filled}
@@ -12,9 +14,6 @@ use Rattle.mapping.specs.Genes.{genesOf, eventTable}
 use borrow.Author.Needs.{needs}
 use Rattle.mapping.proofs.events.Statement.{statement}
 use Rattle.mapping.proofs.events.Tie as tie
-use Rattle.mapping.proofs.events.Reads as reads
-use Rattle.mapping.proofs.events.Lts as lts
-use Rattle.mapping.proofs.event_at.Reads as event-at-reads
 
 abbrev Inv-loop : tie.InvT-loop
 Inv-loop n up on height m left right leaf mother place sent out₀ g₀ out g = (g ≤ m) × (out ≡ filled g zeros (event (switchedOf n up on height) (genesOf m left right leaf mother) taken))
@@ -22,42 +21,34 @@ Inv-loop n up on height m left right leaf mother place sent out₀ g₀ out g = 
 abbrev μ-loop : tie.MeasureT-loop
 μ-loop n up on height m left right leaf mother place sent out₀ g₀ out g = m - g
 
--- src/lib.rt:246:5
 loop-holds : tie.Need-loop-holds Inv-loop μ-loop
 unfolding zeros
 loop-holds c = search (needs, fill-loop)
 
--- src/lib.rt:247:17
 add-w : tie.Need-add-w Inv-loop μ-loop
 add-w c = search needs
 
--- src/lib.rt:248:18
 event-at-requires : tie.Need-event-at-requires Inv-loop μ-loop
 event-at-requires c κs =
     let s = c .before .before in
     let w = c .before .loop .g + 1 in
     (search needs, kin-held _ _ _ _ _ _ _ _ _ (s .pre .0) (s .pre .1 .0) w, table-low _ _ _ _ _ _ _ _ _ (s .pre .0) (s .pre .1 .0) _ (s .pre .1 .1 .0) w)
 
--- src/lib.rt:248:9
 mul-out : tie.Need-mul-out Inv-loop μ-loop
 mul-out c = search needs
 
--- src/lib.rt:248:9
 array-write-out : tie.Need-array-write-out Inv-loop μ-loop
 array-write-out c = search needs
 
--- src/lib.rt:246:5
 loop-less : tie.Need-loop-less Inv-loop μ-loop
 loop-less c = search needs
 
--- src/lib.rt:246:5
 loop-again : tie.Need-loop-again Inv-loop μ-loop
 loop-again c =
     let s = c .before .before .before in
     let l = c .before .before .loop in
     (search needs, filled-more _ _ _ _ _ (l .inv .1) (table-event _ _ _ _ _ _ _ _ _ (s .pre .0) (s .pre .1 .0) _ (s .pre .1 .1 .0) _ (s .pre .1 .1 .1) _ _ (omega arith) (omega arith) (c .event-at .ensures)))
 
--- src/lib.rt:238:1
 returns : tie.Need-returns Inv-loop μ-loop
 unfolding eventTable
 returns c = search (needs, fill-loop)

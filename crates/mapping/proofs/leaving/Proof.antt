@@ -1,15 +1,13 @@
+-- `mapping::leaving` meets its contract. The invariant: each entry is the sum over the arcs passed.
+-- Assumes nothing.
 use Rattle.mapping.proofs.ArcsOut.{leave-turn}
-use Prim.Native.Nat.{ℕ, _+_, _-_, _≤_}
-use mathlib.Core.Path.{_≡_}
+use Prim.Native.Nat.{_+_, _-_, _≤_}
 use native.Mathlib.Omega.{arith}
 use Rattle.gene_tree.specs.Genes.{zeros}
 use Rattle.mapping.proofs.ArcsOut.{Summed, leave-small, leave-loop}
 use borrow.Author.Needs.{needs}
 use Rattle.mapping.proofs.leaving.Statement.{statement}
 use Rattle.mapping.proofs.leaving.Tie as tie
-use Rattle.mapping.proofs.leaving.Reads as reads
-use Rattle.mapping.proofs.leaving.Lts as lts
-use Rattle.mapping.proofs.wide.Reads as wide-reads
 
 abbrev Inv-loop : tie.InvT-loop
 Inv-loop n up weight out₀ v₀ out v = (v ≤ n) × Summed up weight v out
@@ -17,44 +15,34 @@ Inv-loop n up weight out₀ v₀ out v = (v ≤ n) × Summed up weight v out
 abbrev μ-loop : tie.MeasureT-loop
 μ-loop n up weight out₀ v₀ out v = n - v
 
--- src/lib.rt:90:5
 loop-holds : tie.Need-loop-holds Inv-loop μ-loop
 unfolding zeros
 loop-holds c = search (needs, leave-loop)
 
--- src/lib.rt:91:17
 add-w : tie.Need-add-w Inv-loop μ-loop
 add-w c = search needs
 
--- src/lib.rt:92:22
 mul-wide : tie.Need-mul-wide Inv-loop μ-loop
 mul-wide c = search needs
 
--- src/lib.rt:92:22
 element-copy-out-wide : tie.Need-element-copy-out-wide Inv-loop μ-loop
 element-copy-out-wide c = search needs
 
--- src/lib.rt:92:13
 wide-requires : tie.Need-wide-requires Inv-loop μ-loop
 wide-requires c κs = search needs
 
--- src/lib.rt:93:18
 mul-out : tie.Need-mul-out Inv-loop μ-loop
 mul-out c = let h : c .wide .result ≤ 127 = rw (c .wide .ensures) (c .before .before .before .before .pre .1 (c .before .before .before .loop .v + 1)) in search needs
 
--- src/lib.rt:93:18
 array-read-out : tie.Need-array-read-out Inv-loop μ-loop
 array-read-out c = let h : c .wide .result ≤ 127 = rw (c .wide .ensures) (c .before .before .before .before .pre .1 (c .before .before .before .loop .v + 1)) in search needs
 
--- src/lib.rt:93:27
 mul-out-2 : tie.Need-mul-out-2 Inv-loop μ-loop
 mul-out-2 c = search needs
 
--- src/lib.rt:93:27
 element-copy-out-out : tie.Need-element-copy-out-out Inv-loop μ-loop
 element-copy-out-out c = search needs
 
--- src/lib.rt:93:18
 add-out : tie.Need-add-out Inv-loop μ-loop
 add-out c =
     let h : c .before .wide .result ≤ 127 = rw (c .before .wide .ensures) (c .before .before .before .before .before .pre .1 (c .before .before .before .before .loop .v + 1)) in
@@ -62,30 +50,24 @@ add-out c =
     let s = c .before .before .before .before .before .pre in
     omega (arith, leave-small _ _ (l .v) (l .out) (l .inv .1) (s .2) (c .before .wide .result) h, s .2 (l .v + 1))
 
--- src/lib.rt:93:9
 mul-out-3 : tie.Need-mul-out-3 Inv-loop μ-loop
 mul-out-3 c = let h : c .before .wide .result ≤ 127 = rw (c .before .wide .ensures) (c .before .before .before .before .before .pre .1 (c .before .before .before .before .loop .v + 1)) in search needs
 
--- src/lib.rt:93:9
 array-write-out : tie.Need-array-write-out Inv-loop μ-loop
 array-write-out c = let h : c .before .wide .result ≤ 127 = rw (c .before .wide .ensures) (c .before .before .before .before .before .pre .1 (c .before .before .before .before .loop .v + 1)) in search needs
 
--- src/lib.rt:90:5
 loop-less : tie.Need-loop-less Inv-loop μ-loop
 loop-less c = search needs
 
--- src/lib.rt:90:5
 loop-again : tie.Need-loop-again Inv-loop μ-loop
 loop-again c =
     let h : c .before .wide .result ≤ 127 = rw (c .before .wide .ensures) (c .before .before .before .before .before .pre .1 (c .before .before .before .before .loop .v + 1)) in
     let l = c .before .before .before .before .loop in
     (search needs, leave-turn _ _ (l .v) (c .before .wide .result) (l .out) (l .inv .1) (c .before .wide .ensures) h)
 
--- src/lib.rt:96:5
 array-write-out-2 : tie.Need-array-write-out-2 Inv-loop μ-loop
 array-write-out-2 c = search needs
 
--- src/lib.rt:84:1
 returns : tie.Need-returns Inv-loop μ-loop
 returns c = search (needs, leave-loop)
 

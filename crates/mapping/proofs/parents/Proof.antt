@@ -1,4 +1,6 @@
-use Prim.Native.Nat.{ℕ, _+_, _-_, _≤_}
+-- `mapping::parents` meets its contract. The invariant: the entries passed are filled.
+-- Assumes nothing.
+use Prim.Native.Nat.{_-_, _≤_}
 use mathlib.Core.Path.{_≡_}
 use Rattle.finite.specs.Tables.{filled}
 use Rattle.finite.proofs.Tables.{fill-loop}
@@ -7,9 +9,6 @@ use Rattle.mapping.specs.Settings.{upAt, upTable}
 use borrow.Author.Needs.{needs}
 use Rattle.mapping.proofs.parents.Statement.{statement}
 use Rattle.mapping.proofs.parents.Tie as tie
-use Rattle.mapping.proofs.parents.Reads as reads
-use Rattle.mapping.proofs.parents.Lts as lts
-use Rattle.mapping.proofs.up_of.Reads as up-of-reads
 
 abbrev Inv-loop : tie.InvT-loop
 Inv-loop n principal secondary on out₀ v₀ out v = (v ≤ n) × (out ≡ filled v zeros (upAt principal secondary on))
@@ -17,61 +16,47 @@ Inv-loop n principal secondary on out₀ v₀ out v = (v ≤ n) × (out ≡ fill
 abbrev μ-loop : tie.MeasureT-loop
 μ-loop n principal secondary on out₀ v₀ out v = n - v
 
--- src/lib.rt:57:5
 loop-holds : tie.Need-loop-holds Inv-loop μ-loop
 unfolding zeros
 loop-holds c = search (needs, fill-loop)
 
--- src/lib.rt:58:17
 add-w : tie.Need-add-w Inv-loop μ-loop
 add-w c = search needs
 
--- src/lib.rt:59:24
 mul-up-of : tie.Need-mul-up-of Inv-loop μ-loop
 mul-up-of c = search needs
 
--- src/lib.rt:59:24
 element-copy-out-up-of : tie.Need-element-copy-out-up-of Inv-loop μ-loop
 element-copy-out-up-of c = search needs
 
--- src/lib.rt:59:38
 mul-up-of-2 : tie.Need-mul-up-of-2 Inv-loop μ-loop
 mul-up-of-2 c = search needs
 
--- src/lib.rt:59:38
 element-copy-out-up-of-2 : tie.Need-element-copy-out-up-of-2 Inv-loop μ-loop
 element-copy-out-up-of-2 c = search needs
 
--- src/lib.rt:59:52
 mul-up-of-3 : tie.Need-mul-up-of-3 Inv-loop μ-loop
 mul-up-of-3 c = search needs
 
--- src/lib.rt:59:52
 element-copy-out-up-of-3 : tie.Need-element-copy-out-up-of-3 Inv-loop μ-loop
 element-copy-out-up-of-3 c = search needs
 
--- src/lib.rt:59:18
 up-of-requires : tie.Need-up-of-requires Inv-loop μ-loop
 up-of-requires c κs = search needs
 
--- src/lib.rt:59:9
 mul-out : tie.Need-mul-out Inv-loop μ-loop
 mul-out c = search needs
 
--- src/lib.rt:59:9
 array-write-out : tie.Need-array-write-out Inv-loop μ-loop
 array-write-out c = search needs
 
--- src/lib.rt:57:5
 loop-less : tie.Need-loop-less Inv-loop μ-loop
 loop-less c = search needs
 
--- src/lib.rt:57:5
 loop-again : tie.Need-loop-again Inv-loop μ-loop
 unfolding upAt
 loop-again c = search (needs, fill-loop)
 
--- src/lib.rt:51:1
 returns : tie.Need-returns Inv-loop μ-loop
 unfolding upTable
 returns c = search (needs, fill-loop)

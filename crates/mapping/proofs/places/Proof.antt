@@ -1,14 +1,12 @@
-use Prim.Native.Nat.{ℕ, _+_, _-_, _≤_}
-use mathlib.Core.Path.{_≡_}
+-- `mapping::places` meets its contract. The invariant: the genes passed, from the highest down, have their places.
+-- Assumes nothing.
+use Prim.Native.Nat.{_-_, _≤_}
 use Rattle.gene_tree.specs.Genes.{zeros}
 use Rattle.mapping.specs.Switched.{switchedOf}
 use Rattle.mapping.proofs.Placing.{PlacedFrom, place-loop}
 use borrow.Author.Needs.{needs}
 use Rattle.mapping.proofs.places.Statement.{statement}
 use Rattle.mapping.proofs.places.Tie as tie
-use Rattle.mapping.proofs.places.Reads as reads
-use Rattle.mapping.proofs.places.Lts as lts
-use Rattle.mapping.proofs.place_of.Reads as place-of-reads
 
 abbrev Inv-loop : tie.InvT-loop
 Inv-loop n up on height m left right leaf mother out₀ g₀ out g = (g ≤ m) × PlacedFrom (switchedOf n up on height) m left right leaf mother g out
@@ -16,36 +14,28 @@ Inv-loop n up on height m left right leaf mother out₀ g₀ out g = (g ≤ m) �
 abbrev μ-loop : tie.MeasureT-loop
 μ-loop n up on height m left right leaf mother out₀ g₀ out g = g
 
--- src/lib.rt:200:5
 loop-holds : tie.Need-loop-holds Inv-loop μ-loop
 unfolding zeros
 loop-holds c = search (needs, place-loop)
 
--- src/lib.rt:201:13
 place-of-requires : tie.Need-place-of-requires Inv-loop μ-loop
 place-of-requires c κs = (search needs, (search needs, search (needs, place-loop)))
 
--- src/lib.rt:202:9
 mul-out : tie.Need-mul-out Inv-loop μ-loop
 mul-out c = search needs
 
--- src/lib.rt:202:9
 array-write-out : tie.Need-array-write-out Inv-loop μ-loop
 array-write-out c = search needs
 
--- src/lib.rt:203:9
 sub-g : tie.Need-sub-g Inv-loop μ-loop
 sub-g c = search needs
 
--- src/lib.rt:200:5
 loop-less : tie.Need-loop-less Inv-loop μ-loop
 loop-less c = search needs
 
--- src/lib.rt:200:5
 loop-again : tie.Need-loop-again Inv-loop μ-loop
 loop-again c = search (needs, place-loop)
 
--- src/lib.rt:193:1
 returns : tie.Need-returns Inv-loop μ-loop
 returns c = search (needs, place-loop)
 

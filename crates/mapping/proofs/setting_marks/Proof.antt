@@ -1,16 +1,15 @@
+-- `mapping::setting_marks` meets its contract. The invariant: the entries passed are filled.
+-- Assumes nothing.
 use native.Mathlib.Omega.{arith}
-use Prim.Native.Nat.{ℕ, _+_, _-_, _≤_}
+use Prim.Native.Nat.{_+_, _-_, _≤_}
 use mathlib.Core.Path.{_≡_}
-use Rattle.finite.specs.Tables.{at, filled}
+use Rattle.finite.specs.Tables.{filled}
 use Rattle.finite.proofs.Tables.{fill-loop}
 use Rattle.gene_tree.specs.Genes.{zeros}
 use Rattle.mapping.specs.Settings.{markAt, markTable}
 use borrow.Author.Needs.{needs}
 use Rattle.mapping.proofs.setting_marks.Statement.{statement}
 use Rattle.mapping.proofs.setting_marks.Tie as tie
-use Rattle.mapping.proofs.setting_marks.Reads as reads
-use Rattle.mapping.proofs.setting_marks.Lts as lts
-use Rattle.mapping.proofs.mark_of.Reads as mark-of-reads
 
 abbrev Inv-loop : tie.InvT-loop
 Inv-loop n secondary top members index c x k out₀ v₀ out v = (v ≤ n) × (out ≡ filled v zeros (markAt x k c secondary top index))
@@ -18,71 +17,55 @@ Inv-loop n secondary top members index c x k out₀ v₀ out v = (v ≤ n) × (o
 abbrev μ-loop : tie.MeasureT-loop
 μ-loop n secondary top members index c x k out₀ v₀ out v = n - v
 
--- src/lib.rt:48:13
 mul-k : tie.Need-mul-k Inv-loop μ-loop
 mul-k c = search needs
 
--- src/lib.rt:48:13
 element-copy-out-k : tie.Need-element-copy-out-k Inv-loop μ-loop
 element-copy-out-k c = search needs
 
--- src/lib.rt:51:5
 loop-holds : tie.Need-loop-holds Inv-loop μ-loop
 unfolding zeros
 loop-holds c = search (needs, fill-loop)
 
--- src/lib.rt:52:17
 add-w : tie.Need-add-w Inv-loop μ-loop
 add-w c = search needs
 
--- src/lib.rt:53:35
 mul-mark-of : tie.Need-mul-mark-of Inv-loop μ-loop
 mul-mark-of c = search needs
 
--- src/lib.rt:53:35
 element-copy-out-mark-of : tie.Need-element-copy-out-mark-of Inv-loop μ-loop
 element-copy-out-mark-of c = search needs
 
--- src/lib.rt:53:49
 mul-mark-of-2 : tie.Need-mul-mark-of-2 Inv-loop μ-loop
 mul-mark-of-2 c = search needs
 
--- src/lib.rt:53:49
 element-copy-out-mark-of-2 : tie.Need-element-copy-out-mark-of-2 Inv-loop μ-loop
 element-copy-out-mark-of-2 c = search needs
 
--- src/lib.rt:53:57
 mul-mark-of-3 : tie.Need-mul-mark-of-3 Inv-loop μ-loop
 mul-mark-of-3 c = search needs
 
--- src/lib.rt:53:57
 element-copy-out-mark-of-3 : tie.Need-element-copy-out-mark-of-3 Inv-loop μ-loop
 element-copy-out-mark-of-3 c = search needs
 
--- src/lib.rt:53:18
 mark-of-requires : tie.Need-mark-of-requires Inv-loop μ-loop
 mark-of-requires c κs =
     let s = c .before .before .before .before .before .before .pre .1 in
     (s .few, s .indexed (c .before .before .before .before .loop .v + 1) (omega arith) (omega arith))
 
--- src/lib.rt:53:9
 mul-out : tie.Need-mul-out Inv-loop μ-loop
 mul-out c = search needs
 
--- src/lib.rt:53:9
 array-write-out : tie.Need-array-write-out Inv-loop μ-loop
 array-write-out c = search needs
 
--- src/lib.rt:51:5
 loop-less : tie.Need-loop-less Inv-loop μ-loop
 loop-less c = search needs
 
--- src/lib.rt:51:5
 loop-again : tie.Need-loop-again Inv-loop μ-loop
 unfolding markAt
 loop-again c = search (needs, fill-loop)
 
--- src/lib.rt:44:1
 returns : tie.Need-returns Inv-loop μ-loop
 unfolding markTable
 returns c = search (needs, fill-loop)

@@ -1,17 +1,14 @@
-use Prim.Native.Nat.{ℕ, _+_, _-_, _≤_}
+-- `mapping::totals` meets its contract. The invariant: the score is that of the genes passed.
+-- Assumes nothing.
+use Prim.Native.Nat.{_+_, _-_, _≤_}
 use native.Mathlib.Omega.{arith}
 use Rattle.mapping.specs.Switched.{switchedOf}
 use Rattle.mapping.specs.Genes.{genesOf}
 use Rattle.mapping.proofs.Mapped.{table-fork, table-coming, table-losses, table-losses-low, table-transfers, table-transfers-low, table-kind}
-use Rattle.mapping.proofs.Adding.{Counted, counts-loop, counted-none, counted-more, counted-room, counted-done}
+use Rattle.mapping.proofs.Adding.{Counted, counted-none, counted-more, counted-room, counted-done}
 use borrow.Author.Needs.{needs}
 use Rattle.mapping.proofs.totals.Statement.{statement}
 use Rattle.mapping.proofs.totals.Tie as tie
-use Rattle.mapping.proofs.totals.Reads as reads
-use Rattle.mapping.proofs.totals.Lts as lts
-use Rattle.mapping.proofs.charge.Reads as charge-reads
-use Rattle.mapping.proofs.losses_of.Reads as losses-of-reads
-use Rattle.mapping.proofs.transfers_of.Reads as transfers-of-reads
 
 abbrev Inv-loop : tie.InvT-loop
 Inv-loop n up on height m left right leaf mother forks place event u s₀ g₀ s g = (g ≤ m) × Counted (switchedOf n up on height) (genesOf m left right leaf mother) u g s
@@ -19,35 +16,28 @@ Inv-loop n up on height m left right leaf mother forks place event u s₀ g₀ s
 abbrev μ-loop : tie.MeasureT-loop
 μ-loop n up on height m left right leaf mother forks place event u s₀ g₀ s g = m - g
 
--- src/lib.rt:385:5
 loop-holds : tie.Need-loop-holds Inv-loop μ-loop
 loop-holds c = (search needs, counted-none _ _ _)
 
--- src/lib.rt:386:17
 add-w : tie.Need-add-w Inv-loop μ-loop
 add-w c = search needs
 
--- src/lib.rt:387:13
 transfers-of-requires : tie.Need-transfers-of-requires Inv-loop μ-loop
 transfers-of-requires c κs =
     let s = c .before .before in
     (s .pre .0, (search needs, table-coming _ _ _ _ _ _ _ _ _ (s .pre .0) (s .pre .1 .0) _ (s .pre .1 .1 .1) (c .before .loop .g + 1)))
 
--- src/lib.rt:388:13
 losses-of-requires : tie.Need-losses-of-requires Inv-loop μ-loop
 losses-of-requires c κs =
     let s = c .before .before .before in
     (s .pre .0, (search needs, table-fork _ _ _ _ _ _ _ _ _ (s .pre .0) (s .pre .1 .0) _ (s .pre .1 .1 .1) _ _ (s .pre .1 .1 .0) (s .pre .1 .1 .2), table-coming _ _ _ _ _ _ _ _ _ (s .pre .0) (s .pre .1 .0) _ (s .pre .1 .1 .1) (c .before .before .loop .g + 1)))
 
--- src/lib.rt:389:26
 mul-charge : tie.Need-mul-charge Inv-loop μ-loop
 mul-charge c = search needs
 
--- src/lib.rt:389:26
 element-copy-out-charge : tie.Need-element-copy-out-charge Inv-loop μ-loop
 element-copy-out-charge c = search needs
 
--- src/lib.rt:389:9
 charge-requires : tie.Need-charge-requires Inv-loop μ-loop
 charge-requires c κs =
     let s = c .before .before .before .before .before in
@@ -58,11 +48,9 @@ charge-requires c κs =
       table-losses-low _ _ _ _ _ _ _ _ _ (s .pre .0) (s .pre .1 .0) _ (s .pre .1 .1 .1) _ _ (s .pre .1 .1 .0) (s .pre .1 .1 .2) _ _ (c .before .losses-of .ensures),
     )
 
--- src/lib.rt:385:5
 loop-less : tie.Need-loop-less Inv-loop μ-loop
 loop-less c = search needs
 
--- src/lib.rt:385:5
 loop-again : tie.Need-loop-again Inv-loop μ-loop
 loop-again c =
     let s = c .before .before .before .before .before .before in
@@ -75,7 +63,6 @@ loop-again c =
           (c .charge .ensures),
     )
 
--- src/lib.rt:372:1
 returns : tie.Need-returns Inv-loop μ-loop
 returns c = counted-done _ _ _ _ _ _ _ _ _ _ (c .before .loop .g) (c .before .loop .s) (search needs) (omega arith) (c .before .loop .inv .1)
 

@@ -1,6 +1,7 @@
-use Prim.Native.Nat.{ℕ, _+_, _-_, _≤_}
+-- `mapping::transfers` meets its contract. The invariant: the entries passed are filled.
+-- Assumes nothing.
+use Prim.Native.Nat.{_+_, _-_, _≤_}
 use mathlib.Core.Path.{_≡_}
-use native.Mathlib.Omega.{arith}
 use Rattle.finite.specs.Tables.{filled}
 use Rattle.finite.proofs.Tables.{fill-loop, filled-more}
 use Rattle.gene_tree.specs.Genes.{zeros}
@@ -11,9 +12,6 @@ use Rattle.mapping.specs.Genes.{genesOf, transferTable}
 use borrow.Author.Needs.{needs}
 use Rattle.mapping.proofs.transfers.Statement.{statement}
 use Rattle.mapping.proofs.transfers.Tie as tie
-use Rattle.mapping.proofs.transfers.Reads as reads
-use Rattle.mapping.proofs.transfers.Lts as lts
-use Rattle.mapping.proofs.transfers_of.Reads as transfers-of-reads
 
 abbrev Inv-loop : tie.InvT-loop
 Inv-loop n up on height m left right leaf mother place out₀ g₀ out g = (g ≤ m) × (out ≡ filled g zeros (transfers (switchedOf n up on height) (genesOf m left right leaf mother) taken))
@@ -21,41 +19,33 @@ Inv-loop n up on height m left right leaf mother place out₀ g₀ out g = (g �
 abbrev μ-loop : tie.MeasureT-loop
 μ-loop n up on height m left right leaf mother place out₀ g₀ out g = m - g
 
--- src/lib.rt:312:5
 loop-holds : tie.Need-loop-holds Inv-loop μ-loop
 unfolding zeros
 loop-holds c = search (needs, fill-loop)
 
--- src/lib.rt:313:17
 add-w : tie.Need-add-w Inv-loop μ-loop
 add-w c = search needs
 
--- src/lib.rt:314:18
 transfers-of-requires : tie.Need-transfers-of-requires Inv-loop μ-loop
 transfers-of-requires c κs =
     let s = c .before .before in
     (s .pre .0, (search needs, table-coming _ _ _ _ _ _ _ _ _ (s .pre .0) (s .pre .1 .0) _ (s .pre .1 .1) (c .before .loop .g + 1)))
 
--- src/lib.rt:314:9
 mul-out : tie.Need-mul-out Inv-loop μ-loop
 mul-out c = search needs
 
--- src/lib.rt:314:9
 array-write-out : tie.Need-array-write-out Inv-loop μ-loop
 array-write-out c = search needs
 
--- src/lib.rt:312:5
 loop-less : tie.Need-loop-less Inv-loop μ-loop
 loop-less c = search needs
 
--- src/lib.rt:312:5
 loop-again : tie.Need-loop-again Inv-loop μ-loop
 loop-again c =
     let s = c .before .before .before in
     let l = c .before .before .loop in
     (search needs, filled-more _ _ _ _ _ (l .inv .1) (table-transfers _ _ _ _ _ _ _ _ _ (s .pre .0) (s .pre .1 .0) _ (s .pre .1 .1) _ _ (c .transfers-of .ensures)))
 
--- src/lib.rt:304:1
 returns : tie.Need-returns Inv-loop μ-loop
 unfolding transferTable
 returns c = search (needs, fill-loop)

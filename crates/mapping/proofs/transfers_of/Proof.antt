@@ -1,5 +1,6 @@
-use native.Mathlib.Omega.{arith}
-use Prim.Native.Nat.{ℕ, _≤_}
+-- `mapping::transfers_of` meets its contract. The numbers read from the tables are those of the definition.
+-- Assumes nothing.
+use Prim.Native.Nat.{_≤_}
 use Rattle.finite.proofs.Tests.{told-same}
 use Rattle.mapping.specs.Genes.{transfersAt}
 use Rattle.mapping.proofs.Climbs.{on-low}
@@ -7,59 +8,43 @@ use Rattle.mapping.proofs.Mapped.{transfers-read, coming-mother, coming
 use borrow.Author.Needs.{needs}
 use Rattle.mapping.proofs.transfers_of.Statement.{statement}
 use Rattle.mapping.proofs.transfers_of.Tie as tie
-use Rattle.mapping.proofs.transfers_of.Reads as reads
-use Rattle.mapping.proofs.transfers_of.Lts as lts
-use Rattle.mapping.proofs.way.Reads as way-reads
-use Rattle.mapping.proofs.wide.Reads as wide-reads
 
--- src/lib.rt:260:18
 mul-wide : tie.Need-mul-wide
 mul-wide c = search needs
 
--- src/lib.rt:260:18
 element-copy-out-wide : tie.Need-element-copy-out-wide
 element-copy-out-wide c = search needs
 
--- src/lib.rt:260:9
 wide-requires : tie.Need-wide-requires
 wide-requires c κs = search needs
 
--- src/lib.rt:262:9
 returns : tie.Need-returns
 unfolding transfersAt
 returns c = rw (told-same _ _ _ (c .before .wide .ensures) (c .if1 .taken))
 
--- src/lib.rt:264:37
 mul-wide-2 : tie.Need-mul-wide-2
 mul-wide-2 c = let h : c .before .wide .result ≤ 127 = coming-mother _ _ _ _ _ _ _ (c .before .before .before .pre .1 .1) _ (c .before .wide .ensures) (c .if1 .left) in search needs
 
--- src/lib.rt:264:37
 element-copy-out-wide-2 : tie.Need-element-copy-out-wide-2
 element-copy-out-wide-2 c = let h : c .before .wide .result ≤ 127 = coming-mother _ _ _ _ _ _ _ (c .before .before .before .pre .1 .1) _ (c .before .wide .ensures) (c .if1 .left) in search needs
 
--- src/lib.rt:264:32
 wide-requires-2 : tie.Need-wide-requires-2
 wide-requires-2 c κs = search needs
 
--- src/lib.rt:264:53
 mul-wide-3 : tie.Need-mul-wide-3
 mul-wide-3 c = search needs
 
--- src/lib.rt:264:53
 element-copy-out-wide-3 : tie.Need-element-copy-out-wide-3
 element-copy-out-wide-3 c = search needs
 
--- src/lib.rt:264:48
 wide-requires-3 : tie.Need-wide-requires-3
 wide-requires-3 c κs = search needs
 
--- src/lib.rt:264:5
 way-requires : tie.Need-way-requires
 way-requires c κs =
     let s = c .before .before .before .before .before .before .before .pre in
     (s .0, (on-low _ _ _ _ (s .0), coming-below _ _ _ _ _ _ _ (s .1 .1) _ _ _ (c .before .before .before .before .before .wide .ensures) (c .before .before .before .before .if1 .left) (c .before .before .wide2 .ensures) (c .wide3 .ensures)))
 
--- src/lib.rt:255:1
 returns-2 : tie.Need-returns-2
 returns-2 c = transfers-read _ _ _ _ _ _ _ _ _ _ _ (c .before .before .before .before .before .before .wide .ensures) (c .before .before .before .before .before .if1 .left) (c .before .before .before .wide2 .ensures) (c .before .wide3 .ensures) (c .way .ensures)
 
