@@ -41,7 +41,7 @@ count-three n a b c f la ab bc uc fa fb fc = omega (
     keeps : (w : ℕ) → f w ≡ true → w ≢ c → but w ≡ true
     keeps w t d = and-yes (f w) (not (same w c)) t (not-yes (same w c) (not-same d))
 
-shape-few : {s p q : ℕ} → Shape s p q → p ≤ 2
+pub shape-few : {s p q : ℕ} → Shape s p q → p ≤ 2
 shape-few (reticulation d) = omega arith
 shape-few inner-two = omega arith
 shape-few inner-mixed = omega arith
@@ -49,22 +49,22 @@ shape-few leafNode = omega arith
 
 -- the children by principal arcs of a node with at most two
 module _ (n : ℕ) (principal : List ℕ) (p x : ℕ) (few : children n (at principal) p ≤ 2) (lx : 1 ≤ x) (ux : x ≤ n) (e : at principal x ≡ p) where
-  abbrev a : ℕ
+  abbrev pub a : ℕ
   a = childAfter n principal 0 p
 
-  abbrev b : ℕ
+  abbrev pub b : ℕ
   b = childAfter n principal a p
 
-  has-first : a ≢ 0
+  pub has-first : a ≢ 0
   has-first z = child-none n principal 0 p z x (omega arith) ux e
 
   first-le : a ≤ x
   first-le = byLess x a (λ q. absurd (child-low n principal 0 p x (omega arith) q e)) (λ q. q)
 
-  only-first : b ≡ 0 → x ≡ a
+  pub only-first : b ≡ 0 → x ≡ a
   only-first z = byEq x a (λ q. q) (λ q. absurd (child-none n principal a p z x (omega (arith, first-le)) ux e))
 
-  first-or-second : x ≢ a → x ≡ b
+  pub first-or-second : x ≢ a → x ≡ b
   unfolding children
   first-or-second q = byEq x b (λ r. r) (λ r.
       let lower : a < x = omega (arith, first-le) in

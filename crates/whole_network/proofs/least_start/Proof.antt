@@ -12,10 +12,10 @@ use Rattle.whole_network.proofs.least_start.Lts as lts
 use Rattle.whole_network.proofs.lesser.Reads as lesser-reads
 
 abbrev Inv-loop : tie.InvT-loop
-Inv-loop n scratch r₀ v₀ r v = (v ≤ n) × (costOf r ≡ leastOver v (row n scratch 1))
+Inv-loop n scratch r₀ start₀ r start = (start ≤ n) × (costOf r ≡ leastOver start (row n scratch 1))
 
 abbrev μ-loop : tie.MeasureT-loop
-μ-loop n scratch r₀ v₀ r v = n - v
+μ-loop n scratch r₀ start₀ r start = n - start
 
 -- src/lib.rt:291:5
 loop-holds : tie.Need-loop-holds Inv-loop μ-loop
@@ -34,8 +34,8 @@ lesser-requires : tie.Need-lesser-requires Inv-loop μ-loop
 lesser-requires c κs = search needs
 
 -- src/lib.rt:293:9
-add-v : tie.Need-add-v Inv-loop μ-loop
-add-v c = search needs
+add-start : tie.Need-add-start Inv-loop μ-loop
+add-start c = search needs
 
 -- src/lib.rt:291:5
 loop-less : tie.Need-loop-less Inv-loop μ-loop
@@ -59,7 +59,7 @@ least-start-spec =
     mul-lesser
     shared-slice-read-lesser
     lesser-requires
-    add-v
+    add-start
     loop-less
     loop-again
     returns)
