@@ -1,0 +1,2 @@
+pub mod Acceptable
+pub mod Sheets
