@@ -1,24 +1,23 @@
 -- The tables of children say exactly what leaves each node of an accepted network: at most two principal arcs, a secondary one only beside a single
 -- principal one, so no arc out is left out.
 -- Assumes nothing.
-use mathlib.Core.Path.{_≡_, refl, sym, ap, _∙_}
-use mathlib.Core.Logic.{_≢_, _⊎_, inl, inr, _↔_, ⊎-elim}
-use mathlib.Core.Bool.{Bool, true, false}
+use mathlib.Core.Path.{_≡_, refl, _∙_}
+use mathlib.Core.Logic.{_≢_, inl, inr, _↔_, ⊎-elim}
 use mathlib.Core.List.{List}
-use Prim.Native.Nat.{ℕ, _+_, _≤_, _<_}
+use Prim.Native.Nat.{ℕ, _≤_}
 use native.Mathlib.Omega.{arith}
 use Rattle.finite.specs.Tests.{same}
-use Rattle.finite.specs.Range.{count, children}
+use Rattle.finite.specs.Range.{children}
 use Rattle.finite.specs.Tables.{at}
 use Rattle.finite.proofs.Cases.{byEq}
 use Rattle.finite.proofs.Tests.{is-same, same-is}
 use Rattle.finite.proofs.Count.{count-some, count-two, count-one, count-find}
-use Rattle.histories.specs.Histories.{Out, leaf, one, two, mixed, Family}
+use Rattle.histories.specs.Histories.{Family}
 use Rattle.histories.specs.Families.{childAfter, outBy, PrincipalEnd, SecondaryEnd}
 use Rattle.histories.specs.Accepted.{Shape, reticulation, inner-two, inner-mixed, leaf as leafNode, Accepted}
-use Rattle.histories.proofs.Clauses.{out-leaf, out-two, out-mixed, out-one, byOut}
+use Rattle.histories.proofs.Clauses.{out-two, out-mixed, out-one, byOut}
 use Rattle.histories.proofs.Children.{child-is, child-none}
-use Rattle.histories.proofs.Accepted.{Whole, tableFirst, tableSecond, tableOther, out-at, first-child-at, second-child-at}
+use Rattle.histories.proofs.Accepted.{Whole, tableFirst, out-at, first-child-at, second-child-at}
 use Rattle.histories.proofs.Small.{shape-few, has-first, only-first, first-or-second}
 
 -- a secondary arc out goes with exactly one principal arc

@@ -1,17 +1,17 @@
 -- Tables that pass the test are accepted: each part of the test is taken out of it and read as the fact that it computes.
 -- Assumes nothing.
-use mathlib.Core.Path.{_≡_, refl, sym, ap, _∙_}
+use mathlib.Core.Path.{_≡_, refl, ap}
 use mathlib.Core.Logic.{_≢_}
-use mathlib.Core.Bool.{Bool, true, false, cond, _&&_, _||_, not}
+use mathlib.Core.Bool.{Bool, true, cond, _&&_, _||_, not}
 use mathlib.Core.List.{List, [], _∷_}
 use Prim.Native.Nat.{ℕ, zero, suc, _≤_, _<_}
 use native.Mathlib.Omega.{arith}
 use lib.ListN.{getD}
 use Rattle.finite.specs.Tests.{same, under}
-use Rattle.finite.specs.Range.{every, some, children}
+use Rattle.finite.specs.Range.{every, children}
 use Rattle.finite.specs.Tables.{at}
 use Rattle.finite.proofs.Cases.{byEq, byBool, clash}
-use Rattle.finite.proofs.Tests.{and-l, and-r, or-r, same-is, same-not, is-same, not-same, under-is, not-true, not-under}
+use Rattle.finite.proofs.Tests.{and-l, and-r, or-r, same-is, same-not, is-same, not-same, under-is, not-true}
 use Rattle.finite.proofs.Every.{every-at, some-at}
 use Rattle.finite.proofs.Tables.{within-zero, within-out}
 use Rattle.topology.specs.Networks.{Network, Node, Sound}

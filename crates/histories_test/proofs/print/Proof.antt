@@ -1,13 +1,11 @@
+-- `histories_test::print` meets its contract. The loop's invariant: i stays within the columns. The measure is i.
+-- Assumes nothing.
 use mathlib.Core.Path.{_≡_}
 use lib.ListN.{length}
 use borrow.Author.Needs.{needs}
 use Prim.Native.Nat.{_≤_}
 use Rattle.histories_test.proofs.print.Statement.{statement}
 use Rattle.histories_test.proofs.print.Tie as tie
-use Rattle.histories_test.proofs.print.Reads as reads
-use Rattle.histories_test.proofs.print.Lts as lts
-use Rattle.histories_test.proofs.column.Reads as column-reads
-use Rattle.io.proofs.write_all.Reads as write-all-reads
 
 abbrev Inv-loop : tie.InvT-loop
 Inv-loop x end out₀ rest₀ i₀ out rest i = (i ≤ 10) × (length out ≡ 11)
@@ -15,43 +13,33 @@ Inv-loop x end out₀ rest₀ i₀ out rest i = (i ≤ 10) × (length out ≡ 11
 abbrev μ-loop : tie.MeasureT-loop
 μ-loop x end out₀ rest₀ i₀ out rest i = i
 
--- src/main.rt:53:5
 array-write-out : tie.Need-array-write-out Inv-loop μ-loop
 array-write-out c = search needs
 
--- src/main.rt:56:5
 loop-holds : tie.Need-loop-holds Inv-loop μ-loop
 loop-holds c = search needs
 
--- src/main.rt:57:9
 sub-i : tie.Need-sub-i Inv-loop μ-loop
 sub-i c = search needs
 
--- src/main.rt:58:18
 column-requires : tie.Need-column-requires Inv-loop μ-loop
 column-requires c κs = search needs
 
--- src/main.rt:58:9
 array-write-out-2 : tie.Need-array-write-out-2 Inv-loop μ-loop
 array-write-out-2 c = search needs
 
--- src/main.rt:56:5
 loop-less : tie.Need-loop-less Inv-loop μ-loop
 loop-less c = search needs
 
--- src/main.rt:56:5
 loop-again : tie.Need-loop-again Inv-loop μ-loop
 loop-again c = search needs
 
--- src/main.rt:61:22
 slice-aggregate-write-all : tie.Need-slice-aggregate-write-all Inv-loop μ-loop
 slice-aggregate-write-all c = search needs
 
--- src/main.rt:61:5
 write-all-requires : tie.Need-write-all-requires Inv-loop μ-loop
 write-all-requires c κs = search needs
 
--- src/main.rt:51:1
 returns : tie.Need-returns Inv-loop μ-loop
 returns c = search needs
 

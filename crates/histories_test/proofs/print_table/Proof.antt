@@ -1,11 +1,9 @@
+-- `histories_test::print_table` meets its contract. The loop's invariant: i stays within the words. The measure is what is left of the words.
+-- Assumes nothing.
 use borrow.Author.Needs.{needs}
 use Prim.Native.Nat.{_≤_, _-_}
 use Rattle.histories_test.proofs.print_table.Statement.{statement}
 use Rattle.histories_test.proofs.print_table.Tie as tie
-use Rattle.histories_test.proofs.print_table.Reads as reads
-use Rattle.histories_test.proofs.print_table.Lts as lts
-use Rattle.histories_test.proofs.print.Reads as print-reads
-use Rattle.io.proofs.write_all.Reads as write-all-reads
 
 abbrev Inv-loop : tie.InvT-loop
 Inv-loop scratch i₀ t3 i = i ≤ 40
@@ -13,55 +11,42 @@ Inv-loop scratch i₀ t3 i = i ≤ 40
 abbrev μ-loop : tie.MeasureT-loop
 μ-loop scratch i₀ t3 i = 40 - i
 
--- src/main.rt:66:5
 loop-holds : tie.Need-loop-holds Inv-loop μ-loop
 loop-holds c = search needs
 
--- src/main.rt:68:19
 mul-print : tie.Need-mul-print Inv-loop μ-loop
 mul-print c = search needs
 
--- src/main.rt:68:19
 element-copy-out-print : tie.Need-element-copy-out-print Inv-loop μ-loop
 element-copy-out-print c = search needs
 
--- src/main.rt:68:13
 print-requires : tie.Need-print-requires Inv-loop μ-loop
 print-requires c κs = search needs
 
--- src/main.rt:70:19
 mul-print-2 : tie.Need-mul-print-2 Inv-loop μ-loop
 mul-print-2 c = search needs
 
--- src/main.rt:70:19
 element-copy-out-print-2 : tie.Need-element-copy-out-print-2 Inv-loop μ-loop
 element-copy-out-print-2 c = search needs
 
--- src/main.rt:70:13
 print-requires-2 : tie.Need-print-requires-2 Inv-loop μ-loop
 print-requires-2 c κs = search needs
 
--- src/main.rt:72:9
 add-i : tie.Need-add-i Inv-loop μ-loop
 add-i c = search needs
 
--- src/main.rt:66:5
 loop-less : tie.Need-loop-less Inv-loop μ-loop
 loop-less c = search needs
 
--- src/main.rt:66:5
 loop-again : tie.Need-loop-again Inv-loop μ-loop
 loop-again c = search needs
 
--- src/main.rt:74:22
 slice-aggregate-write-all : tie.Need-slice-aggregate-write-all Inv-loop μ-loop
 slice-aggregate-write-all c = search needs
 
--- src/main.rt:74:5
 write-all-requires : tie.Need-write-all-requires Inv-loop μ-loop
 write-all-requires c κs = search needs
 
--- src/main.rt:64:1
 returns : tie.Need-returns Inv-loop μ-loop
 returns c = search needs
 
