@@ -1,23 +1,22 @@
 -- An accepted network and gene tree are graded: arcs lead to nodes of higher rank, of which there are fewer, and a gene's children have higher numbers.
 -- So the least costs of their family are computed, and the order by rank serves to fill the table.
 -- Assumes nothing.
-use mathlib.Core.Path.{_≡_, refl, sym, ap, _∙_}
+use mathlib.Core.Path.{_≡_, sym, ap, _∙_}
 use mathlib.Core.Logic.{_≢_}
-use mathlib.Core.Bool.{Bool, true, false}
 use mathlib.Core.List.{List}
-use Prim.Native.Nat.{ℕ, suc, _+_, _≤_, _<_}
+use Prim.Native.Nat.{ℕ, suc, _≤_, _<_}
 use native.Mathlib.Omega.{arith}
-use lib.ListN.{length, replicate, length-replicate, getD-replicate}
-use Rattle.finite.specs.Tests.{same, under}
+use lib.ListN.{length, length-replicate}
+use Rattle.finite.specs.Tests.{under}
 use Rattle.finite.specs.Range.{count}
-use Rattle.finite.specs.Tables.{at, within, filled}
-use Rattle.finite.proofs.Cases.{byEq, byLess, byBool}
-use Rattle.finite.proofs.Tests.{and-no-l, and-no-r, is-same, not-same, is-under, not-under, under-is}
+use Rattle.finite.specs.Tables.{at}
+use Rattle.finite.proofs.Cases.{byEq, byLess}
+use Rattle.finite.proofs.Tests.{and-no-r, is-same, not-same, is-under, not-under, under-is}
 use Rattle.finite.proofs.Count.{count-less, count-le}
 use Rattle.finite.proofs.Tables.{filled-in, within-in}
-use Rattle.topology.specs.Networks.{Network, Node, Sound}
+use Rattle.topology.specs.Networks.{Node}
 use Rattle.topology.specs.Tables.{networkOf, rankFrom}
-use Rattle.histories.specs.Histories.{Out, leaf, one, two, mixed, Gene, tip, pair, Family}
+use Rattle.histories.specs.Histories.{leaf, tip, pair, Family}
 use Rattle.histories.specs.Grades.{Leads, Graded, Limits, Schedule, Prepared}
 use Rattle.histories.specs.Families.{zeros, childAfter, firstChildren, secondChildren, outBy, geneBy, outFrom, geneFrom, familyFrom, familyOf}
 use Rattle.histories.specs.Orders.{ranksOf, Placed}

@@ -1,12 +1,12 @@
 -- No history costs much: the steps that cost are at most the gene's size times the nodes below and one, for a child's steps lie below its parent's.
 -- Assumes nothing.
-use mathlib.Core.Path.{_≡_, refl, sym, ap, _∙_, subst}
+use mathlib.Core.Path.{_≡_}
 use mathlib.Core.Logic.{_⊎_, inl, inr}
-use mathlib.Core.Option.{Option, none, some}
-use Prim.Native.Nat.{ℕ, zero, suc, _+_, _*_, _≤_, _<_}
+use mathlib.Core.Option.{some}
+use Prim.Native.Nat.{ℕ, suc, _+_, _*_, _≤_, _<_}
 use native.Mathlib.Nat.{mul-le-mul-left, mul-le-mul-right, mul-le-mul, mul-suc, suc-mul, add-mul, mul-add, le-trans}
 use native.Mathlib.Omega.{arith}
-use Rattle.histories.specs.Histories.{Out, one, two, mixed, Gene, pair, Family, least}
+use Rattle.histories.specs.Histories.{pair, Family, least}
 use Rattle.histories.specs.Histories.{History, rest, duplicate, speciate, speciateLose, transferStay, transferPart, transferLose, pass, cost}
 use Rattle.histories.specs.Grades.{Graded}
 use Rattle.histories.proofs.Costs.{reach}

@@ -3,16 +3,15 @@
 -- Assumes nothing.
 use mathlib.Core.Path.{_≡_, refl, sym, ap, _∙_}
 use mathlib.Core.Logic.{_≢_, _⊎_, inl, inr}
-use mathlib.Core.List.{List, [], _∷_, _++_}
+use mathlib.Core.List.{List, _++_}
 use Prim.Native.Nat.{ℕ, zero, suc, _+_, _-_, _*_, _/_, _%_, _≤_, _<_}
 use native.Mathlib.Nat.{mul-le-mul-right, suc-mul, add-zero, div-lt-iff-lt-mul}
 use native.Mathlib.Nat.{div-add-mod', mod-lt}
 use native.Mathlib.Omega.{arith}
-use native.Mathlib.Decide.{ℕ-discrete}
-use lib.ListN.{getD, length, set, drop, length-set, length-append, length-drop, List·getD-append}
+use lib.ListN.{getD, length, set, drop, length-append, length-drop, List·getD-append}
 use lib.Seq.{getD-set-same, getD-set-other, getD-append-add, getD-drop, ext-getD}
 use Rattle.finite.proofs.Cases.{byEq, byLess, byOrder}
-use Rattle.histories.specs.Histories.{Family, Cost, least}
+use Rattle.histories.specs.Histories.{Family, least}
 use Rattle.histories.specs.Words.{word, costOf, cell, row, Rows, Kept, listed, wordAt, words}
 use Rattle.histories.proofs.Words.{word-cost}
 

@@ -1,17 +1,17 @@
 -- The children in tables: the lowest above a node whose parent is v is found by going up from that node, and it is a child of v.
 -- Assumes nothing.
 use mathlib.Core.Path.{_≡_, refl, sym, ap, _∙_}
-use mathlib.Core.Logic.{_≢_, _⊎_, inl, inr}
+use mathlib.Core.Logic.{_≢_}
 use mathlib.Core.Bool.{Bool, true, false, _&&_}
 use mathlib.Core.List.{List}
-use Prim.Native.Nat.{ℕ, zero, suc, _+_, _-_, _*_, _≤_, _<_}
+use Prim.Native.Nat.{ℕ, suc, _+_, _-_, _*_, _≤_, _<_}
 use native.Mathlib.Numerals.{add-one}
 use native.Mathlib.Omega.{arith}
-use lib.ListN.{getD, length}
+use lib.ListN.{getD}
 use Rattle.finite.specs.Tests.{same, under}
 use Rattle.finite.specs.Range.{first}
 use Rattle.finite.specs.Tables.{at}
-use Rattle.finite.proofs.Cases.{byEq, byOrder, byBool, clash}
+use Rattle.finite.proofs.Cases.{byEq, byOrder, clash}
 use Rattle.finite.proofs.Tests.{and-l, and-r, and-yes, and-no-l, and-no-r, is-same, not-same, same-is, is-under, not-under, under-is}
 use Rattle.finite.proofs.Every.{first-is, first-none, first-low}
 use Rattle.histories.specs.Histories.{Cost, _⊓_, leastOver}

@@ -1,27 +1,26 @@
 -- Filling the table: a word computed from the rows of the children and from nodes further down is the least cost, so a row is filled node by node in
 -- an order in which arcs out come first, and the table gene by gene from the last.
 -- Assumes nothing.
-use mathlib.Core.Path.{_≡_, refl, sym, ap, _∙_, subst}
-use mathlib.Core.Logic.{_≢_, _⊎_, inl, inr}
-use mathlib.Core.Option.{Option, none, some}
+use mathlib.Core.Path.{_≡_, refl, sym, ap, _∙_}
+use mathlib.Core.Logic.{_≢_, inl, inr}
+use mathlib.Core.Option.{none, some}
 use mathlib.Core.List.{List}
-use Prim.Native.Nat.{ℕ, zero, suc, _+_, _-_, _*_, _≤_, _<_}
+use Prim.Native.Nat.{ℕ, suc, _+_, _-_, _*_, _≤_, _<_}
 use native.Mathlib.Numerals.{add-one}
 use native.Mathlib.Omega.{arith}
-use lib.ListN.{getD, length, set, length-set}
+use lib.ListN.{length, set, length-set}
 use lib.Seq.{getD-set-other}
 use Rattle.finite.specs.Tables.{at}
-use Rattle.finite.proofs.Tests.{is-same, not-same, is-under}
+use Rattle.finite.proofs.Tests.{not-same, is-under}
 use Rattle.finite.proofs.Cases.{byEq}
-use Rattle.histories.specs.Histories.{Cost, both, resting, parting, moving, ending, stepping, clauses, least, Out, leaf, one, two, mixed, Gene, tip, pair, Family}
+use Rattle.histories.specs.Histories.{Cost, parting, moving, ending, stepping, clauses, least, Out, leaf, one, two, mixed, Gene, tip, pair, Family}
 use Rattle.histories.specs.Grades.{Leads, Graded, Limits, Schedule, Prepared}
 use Rattle.histories.specs.Words.{costOf, cell, row, Small, Cell, Readable, Descendants, Rows, Partly, Kept}
 use Rattle.histories.specs.Families.{outBy, geneBy, outFrom, geneFrom, familyFrom}
-use Rattle.histories.proofs.Costs.{Attains, nowhere, somewhere, reach}
 use Rattle.histories.proofs.Least.{equation}
 use Rattle.histories.proofs.Bound.{least-bound}
 use Rattle.histories.proofs.Cells.{cell-in, row-here, row-there}
-use Rattle.histories.proofs.Clauses.{out-leaf, out-two, out-mixed, out-one}
+use Rattle.histories.proofs.Clauses.{out-two, out-mixed, out-one}
 
 -- the ends, case by case
 lead-one : (P : ℕ → Type 0) (x : ℕ) → Leads P (one x) → P x

@@ -11,3 +11,4 @@ pub mod Sizes
 pub mod Accepted
 pub mod Small
 pub mod Promise
+pub mod Ends

@@ -1,11 +1,10 @@
 -- The order of the nodes: coming before is a strict order of all nodes, so the places 1..n are taken each once, and arcs out lead to earlier places.
 -- Assumes nothing.
-use mathlib.Core.Path.{_≡_, refl, sym, ap, _∙_}
+use mathlib.Core.Path.{_≡_, refl, sym, _∙_}
 use mathlib.Core.Logic.{_≢_, _⊎_, inl, inr, ⊎-elim}
-use mathlib.Core.Bool.{Bool, true, false, _&&_, _||_, not}
+use mathlib.Core.Bool.{Bool, true, false, not}
 use mathlib.Core.List.{List}
 use Prim.Native.Nat.{ℕ, zero, suc, _+_, _*_, _≤_, _<_}
-use native.Mathlib.Numerals.{add-one}
 use native.Mathlib.Omega.{arith}
 use lib.ListN.{length, set, length-set}
 use lib.Seq.{getD-set-same, getD-set-other}
@@ -13,11 +12,11 @@ use Rattle.finite.specs.Tests.{same, under, tally}
 use Rattle.finite.specs.Range.{sum, count, children}
 use Rattle.finite.specs.Tables.{at}
 use Rattle.finite.proofs.Cases.{byEq, byOrder, byLess, byBool, clash}
-use Rattle.finite.proofs.Tests.{and-l, and-r, and-yes, and-no-l, and-no-r, or-r, or-yes-l, or-yes-r, or-no, is-same, not-same, same-is, is-under, not-under, under-is, tally-le, tally-yes, tally-no, not-yes}
-use Rattle.finite.proofs.Sum.{sum-short, sum-bound}
-use Rattle.finite.proofs.Count.{count-less, count-le, count-find, count-same, count-zero, children-all}
+use Rattle.finite.proofs.Tests.{and-yes, and-no-l, and-no-r, or-yes-l, or-yes-r, or-no, is-same, not-same, same-is, is-under, not-under, tally-le, tally-yes, tally-no, not-yes}
+use Rattle.finite.proofs.Sum.{sum-short}
+use Rattle.finite.proofs.Count.{count-less, count-le, count-find, count-zero, children-all}
 use Rattle.topology.specs.Tables.{rankFrom}
-use Rattle.histories.specs.Histories.{Family, Out}
+use Rattle.histories.specs.Histories.{Family}
 use Rattle.histories.specs.Grades.{Leads, Schedule}
 use Rattle.histories.specs.Orders.{earlier, placeOf, Placed}
 use Rattle.histories.proofs.Filling.{leads-map}

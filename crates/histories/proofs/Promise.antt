@@ -1,15 +1,15 @@
 -- Filled rows of an accepted network and gene tree keep the promise: each word is the least over all histories, and so is the least of gene 1's row.
 -- Assumes nothing.
 use mathlib.Core.Path.{_≡_, refl, sym, ap, _∙_}
-use mathlib.Core.Option.{Option, none, some}
-use mathlib.Core.List.{List, _++_}
-use Prim.Native.Nat.{ℕ, zero, suc, _+_, _*_, _≤_, _<_}
+use mathlib.Core.Option.{some}
+use mathlib.Core.List.{List}
+use Prim.Native.Nat.{ℕ, zero, suc, _*_, _≤_}
 use native.Mathlib.Nat.{mul-le-mul-right}
 use native.Mathlib.Omega.{arith}
-use lib.ListN.{length, getD, drop}
-use Rattle.histories.specs.Histories.{Family, Cost, _⊓_, Least, LeastOverall, least, leastOver, overall}
+use lib.ListN.{length}
+use Rattle.histories.specs.Histories.{Family, Cost, least, leastOver, overall}
 use Rattle.histories.specs.Grades.{Prepared}
-use Rattle.histories.specs.Words.{word, costOf, cell, row, Rows, Kept}
+use Rattle.histories.specs.Words.{word, costOf, row, Rows, Kept}
 use Rattle.histories.specs.Families.{firstChildren, secondChildren, familyFrom, familyOf}
 use Rattle.histories.specs.Orders.{ranksOf, Placed}
 use Rattle.histories.specs.Accepted.{Accepted}

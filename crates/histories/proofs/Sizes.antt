@@ -1,16 +1,16 @@
 -- How many genes lie below a gene: those below its two children are apart, for of two genes above a third one is above the other.
 -- Assumes nothing.
-use mathlib.Core.Path.{_≡_, refl, sym, ap, _∙_}
+use mathlib.Core.Path.{_≡_, refl, sym, _∙_}
 use mathlib.Core.Logic.{_≢_, _⊎_, inl, inr, ⊎-elim}
 use mathlib.Core.Bool.{Bool, true, false, _&&_, not}
 use mathlib.Core.List.{List}
-use Prim.Native.Nat.{ℕ, zero, suc, _+_, _≤_, _<_}
+use Prim.Native.Nat.{ℕ, suc, _+_, _≤_, _<_}
 use native.Mathlib.Omega.{arith}
 use Rattle.finite.specs.Tests.{same, tally}
-use Rattle.finite.specs.Range.{sum, count}
+use Rattle.finite.specs.Range.{count}
 use Rattle.finite.specs.Tables.{at, within}
 use Rattle.finite.proofs.Cases.{byEq, byBool, byLess, clash}
-use Rattle.finite.proofs.Tests.{and-l, and-r, and-yes, and-no-r, is-same, not-same, same-is, same-not, not-yes, not-no, tally-yes, tally-no, tally-imp, tally-le}
+use Rattle.finite.proofs.Tests.{and-l, and-yes, and-no-r, is-same, not-same, not-yes, not-no, tally-yes, tally-no, tally-imp}
 use Rattle.finite.proofs.Sum.{sum-add, sum-le}
 use Rattle.finite.proofs.Count.{count-less, count-le}
 use Rattle.finite.proofs.Tables.{within-in, within-zero, within-out}

@@ -1,31 +1,29 @@
 -- Gene 1 has a history that costs below 1,000,000: every inner gene duplicates at the root, and every leaf gene goes down principal arcs to a leaf of
 -- its species, at most 63 times with a loss, for fewer than half of the nodes have two principal arcs.
 -- Assumes nothing.
-use mathlib.Core.Path.{_≡_, refl, sym, ap, _∙_, subst}
-use mathlib.Core.Logic.{_≢_, _⊎_, inl, inr}
-use mathlib.Core.Bool.{Bool, true, false, _&&_, not}
-use mathlib.Core.Option.{Option, none, some}
+use mathlib.Core.Path.{_≡_, refl, ap, _∙_, subst}
+use mathlib.Core.Logic.{_≢_, inl, inr}
+use mathlib.Core.Bool.{Bool, true, _&&_, not}
+use mathlib.Core.Option.{some}
 use mathlib.Core.List.{List}
-use Prim.Native.Nat.{ℕ, zero, suc, _+_, _*_, _≤_, _<_}
-use native.Mathlib.Nat.{mul-suc, mul-add, mul-le-mul, mul-le-mul-left, le-trans}
+use Prim.Native.Nat.{ℕ, suc, _+_, _*_, _≤_, _<_}
+use native.Mathlib.Nat.{mul-suc, mul-le-mul, mul-le-mul-left, le-trans}
 use native.Mathlib.Omega.{arith}
 use Rattle.finite.specs.Tests.{same, under, tally}
-use Rattle.finite.specs.Range.{sum, count, children}
+use Rattle.finite.specs.Range.{count, children}
 use Rattle.finite.specs.Tables.{at}
-use Rattle.finite.proofs.Cases.{byEq, byOrder, byBool, byLess, clash, measure}
-use Rattle.finite.proofs.Tests.{and-l, and-r, and-yes, and-no-l, and-no-r, is-same, not-same, same-is, same-not, is-under, not-under, under-is, not-yes, not-no, not-true, not-false, tally-yes, tally-no, tally-imp}
-use Rattle.finite.proofs.Count.{count-less, count-imp, count-two, count-some, zero-count, branchings}
-use Rattle.topology.specs.Networks.{Network, Node, Sound}
-use Rattle.topology.specs.Tables.{networkOf}
-use Rattle.histories.specs.Histories.{Out, leaf, one, two, mixed, Gene, tip, pair, Family, LeastOverall, overall}
+use Rattle.finite.proofs.Cases.{byEq, byLess, clash, measure}
+use Rattle.finite.proofs.Tests.{and-l, and-r, and-yes, and-no-r, is-same, not-same, is-under, not-under, under-is, not-yes, not-no, tally-yes, tally-no}
+use Rattle.finite.proofs.Count.{count-less, count-imp, count-two, zero-count, branchings}
+use Rattle.histories.specs.Histories.{leaf, Family, overall}
 use Rattle.histories.specs.Histories.{History, rest, duplicate, speciateLose, pass, cost}
 use Rattle.histories.specs.Families.{childAfter, outBy, familyOf, familyFrom}
 use Rattle.histories.specs.Accepted.{Shape, reticulation, inner-two, inner-mixed, leaf as leafNode, Seat, Accepted}
-use Rattle.histories.proofs.Least.{is-overall, overall-at-most}
+use Rattle.histories.proofs.Least.{overall-at-most}
 use Rattle.histories.proofs.Clauses.{out-leaf, out-two, out-mixed, out-one}
 use Rattle.histories.proofs.Children.{child-is, child-none, child-low}
 use Rattle.histories.proofs.Sizes.{size, size-low, size-le, size-splits}
-use Rattle.histories.proofs.Accepted.{Whole, tableFirst, tableSecond, tableOther, out-at, first-child-at, second-child-at, gene-tip, gene-pair, rank, rank-principal, principal-in, node-in, root-low, root-high, root-none, principal-le, graded}
+use Rattle.histories.proofs.Accepted.{Whole, tableFirst, tableOther, out-at, first-child-at, second-child-at, gene-tip, gene-pair, rank, rank-principal, principal-in, node-in, root-low, root-high, root-none, principal-le, graded}
 
 -- three that pass are counted
 pub count-three : (n a b c : ℕ) (f : ℕ → Bool) → 1 ≤ a → a < b → b < c → c ≤ n → f a ≡ true → f b ≡ true → f c ≡ true → 3 ≤ count n f
@@ -41,7 +39,7 @@ count-three n a b c f la ab bc uc fa fb fc = omega (
     keeps : (w : ℕ) → f w ≡ true → w ≢ c → but w ≡ true
     keeps w t d = and-yes (f w) (not (same w c)) t (not-yes (same w c) (not-same d))
 
-shape-few : {s p q : ℕ} → Shape s p q → p ≤ 2
+pub shape-few : {s p q : ℕ} → Shape s p q → p ≤ 2
 shape-few (reticulation d) = omega arith
 shape-few inner-two = omega arith
 shape-few inner-mixed = omega arith
@@ -49,22 +47,22 @@ shape-few leafNode = omega arith
 
 -- the children by principal arcs of a node with at most two
 module _ (n : ℕ) (principal : List ℕ) (p x : ℕ) (few : children n (at principal) p ≤ 2) (lx : 1 ≤ x) (ux : x ≤ n) (e : at principal x ≡ p) where
-  abbrev a : ℕ
+  abbrev pub a : ℕ
   a = childAfter n principal 0 p
 
-  abbrev b : ℕ
+  abbrev pub b : ℕ
   b = childAfter n principal a p
 
-  has-first : a ≢ 0
+  pub has-first : a ≢ 0
   has-first z = child-none n principal 0 p z x (omega arith) ux e
 
   first-le : a ≤ x
   first-le = byLess x a (λ q. absurd (child-low n principal 0 p x (omega arith) q e)) (λ q. q)
 
-  only-first : b ≡ 0 → x ≡ a
+  pub only-first : b ≡ 0 → x ≡ a
   only-first z = byEq x a (λ q. q) (λ q. absurd (child-none n principal a p z x (omega (arith, first-le)) ux e))
 
-  first-or-second : x ≢ a → x ≡ b
+  pub first-or-second : x ≢ a → x ≡ b
   unfolding children
   first-or-second q = byEq x b (λ r. r) (λ r.
       let lower : a < x = omega (arith, first-le) in

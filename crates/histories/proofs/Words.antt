@@ -1,21 +1,17 @@
 -- Words for costs: what is computed on 32-bit words is what the definitions compute on costs, for the word for no history is the highest and never
 -- enters a sum.
 -- Assumes nothing.
-use mathlib.Core.Path.{_≡_, refl, sym, ap, _∙_}
+use mathlib.Core.Path.{_≡_, refl, sym, ap}
 use mathlib.Core.Logic.{_≢_}
-use mathlib.Core.Bool.{true, false, cond}
-use mathlib.Core.Option.{Option, none, some}
-use mathlib.Core.List.{List}
-use Prim.Native.Nat.{ℕ, suc, _+_, _-_, _*_, _/_, _%_, _≤_, _<_, min}
+use mathlib.Core.Option.{none, some}
+use Prim.Native.Nat.{ℕ, _+_, _≤_, _<_}
 use native.Mathlib.Omega.{arith}
-use lib.ListN.{getD, length, set}
 use mir.Val.{Fits}
 use mir.Syntax.{w32}
-use Rattle.finite.specs.Tests.{same}
 use Rattle.finite.proofs.Tests.{is-same, not-same}
 use Rattle.finite.proofs.Cases.{byEq}
-use Rattle.histories.specs.Histories.{Cost, _⊓_, _⊕_, then, both, resting, parting, moving, Out, leaf, one, two, mixed}
-use Rattle.histories.specs.Words.{noHistory, word, costOf, cell, row, Small}
+use Rattle.histories.specs.Histories.{Cost, _⊓_, _⊕_, then, both}
+use Rattle.histories.specs.Words.{noHistory, word, costOf, Small}
 
 pub cost-none : {w : ℕ} → w ≡ noHistory → costOf w ≡ none
 unfolding costOf

@@ -2,16 +2,14 @@
 -- by number: its first and second child by a principal arc, and its child by a secondary arc.
 -- Assumes nothing.
 use mathlib.Core.Path.{_≡_}
-use mathlib.Core.Logic.{_≢_}
+use mathlib.Core.Logic.{_⊎_}
 use mathlib.Core.Bool.{cond, _&&_}
 use mathlib.Core.List.{List}
-use Prim.Native.Nat.{ℕ, suc, _+_, _≤_, _<_}
+use Prim.Native.Nat.{ℕ, suc}
 use lib.ListN.{replicate}
 use Rattle.finite.specs.Tests.{same, under}
-use Rattle.finite.specs.Range.{first, children}
+use Rattle.finite.specs.Range.{first}
 use Rattle.finite.specs.Tables.{at, filled}
-use Rattle.topology.specs.Networks.{Network, Node, Sound}
-use Rattle.topology.specs.Tables.{networkOf}
 use Rattle.histories.specs.Histories.{Out, leaf, one, two, mixed, Gene, tip, pair, Family}
 
 -- the lowest node above u whose parent is v, 0 where there is none
@@ -59,6 +57,19 @@ familyFrom n first second other species m left right kind d t l = record {
 unfoldable pub familyOf : (n : ℕ) (principal secondary species : List ℕ) (m : ℕ) (left right kind : List ℕ) (d t l : ℕ) → Family
 familyOf n principal secondary species m left right kind d t l =
     familyFrom n (firstChildren n principal) (secondChildren n principal (firstChildren n principal)) (firstChildren n secondary) species m left right kind d t l
+
+-- what leaves a node, arc by arc: x is the end of a principal arc, of a secondary arc
+unfoldable pub PrincipalEnd : Out → ℕ → Type 0
+PrincipalEnd (leaf s) x = ⊥
+PrincipalEnd (one a) x = x ≡ a
+PrincipalEnd (two a b) x = (x ≡ a) ⊎ (x ≡ b)
+PrincipalEnd (mixed a b) x = x ≡ a
+
+unfoldable pub SecondaryEnd : Out → ℕ → Type 0
+SecondaryEnd (leaf s) x = ⊥
+SecondaryEnd (one a) x = ⊥
+SecondaryEnd (two a b) x = ⊥
+SecondaryEnd (mixed a b) x = x ≡ b
 
 -- whoever unfolds this unfolds all of this file
 unfoldable pub open-Families : Unit {0}

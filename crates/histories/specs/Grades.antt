@@ -4,7 +4,7 @@ use mathlib.Core.Path.{_≡_}
 use mathlib.Core.List.{List}
 use Prim.Native.Nat.{ℕ, suc, _+_, _≤_, _<_}
 use Rattle.finite.specs.Tables.{at}
-use Rattle.histories.specs.Histories.{Out, leaf, one, two, mixed, Gene, pair, Family}
+use Rattle.histories.specs.Histories.{Out, leaf, one, two, mixed, pair, Family}
 
 -- every arc out leads to where `below` holds
 unfoldable pub Leads : (below : ℕ → Type 0) → Out → Type 0

@@ -1,7 +1,7 @@
 -- The histories of a gene in the network as a whole (01, "The network as a whole"; 001, Definition 3), what each costs, and the least cost, computed.
 -- Assumes nothing.
 use mathlib.Core.Path.{_≡_}
-use mathlib.Core.Logic.{_⊎_, inl, inr}
+use mathlib.Core.Logic.{_⊎_}
 use mathlib.Core.Bool.{cond}
 use mathlib.Core.Option.{Option, none, some}
 use Prim.Native.Nat.{ℕ, zero, suc, _+_, _≤_, min}

@@ -366,10 +366,10 @@ fn least_start(n: usize, scratch: &[u32]) -> u32
     ensures { λ r. ⌜ costOf r ≡ leastOver n (row n (now (scratch .entry)) 1) ⌝ }
 {
     let mut r = NONE;
-    let mut v: usize = 0;
-    while v < n {
-        r = lesser(r, scratch[v]);
-        v += 1;
+    let mut start: usize = 0;
+    while start < n {
+        r = lesser(r, scratch[start]);
+        start += 1;
     }
     r
 }

@@ -1,13 +1,10 @@
+-- `whole_network::child_after` meets its contract. The loop's invariant: no node up to w is a child above u. The measure is what is left of the nodes.
+-- Assumes nothing.
 use borrow.Author.Needs.{needs}
-use native.Mathlib.Omega.{arith}
-use mathlib.Core.Path.{_≡_}
-use Prim.Native.Nat.{_+_, _-_, _≤_}
-use Rattle.histories.proofs.Children.{NoChild, child-loop, child-turn, child-stop}
+use Prim.Native.Nat.{_-_, _≤_}
+use Rattle.histories.proofs.Children.{NoChild, child-loop}
 use Rattle.whole_network.proofs.child_after.Statement.{statement}
 use Rattle.whole_network.proofs.child_after.Tie as tie
-use Rattle.whole_network.proofs.child_after.Reads as reads
-use Rattle.whole_network.proofs.child_after.Lts as lts
-use Rattle.whole_network.proofs.wide.Reads as wide-reads
 
 abbrev Inv-loop : tie.InvT-loop
 Inv-loop n parents u v w₀ w = (u ≤ w) × NoChild parents u v w
@@ -15,43 +12,33 @@ Inv-loop n parents u v w₀ w = (u ≤ w) × NoChild parents u v w
 abbrev μ-loop : tie.MeasureT-loop
 μ-loop n parents u v w₀ w = n - w
 
--- src/lib.rt:304:5
 loop-holds : tie.Need-loop-holds Inv-loop μ-loop
 loop-holds c = search (needs, child-loop)
 
--- src/lib.rt:305:9
 add-w : tie.Need-add-w Inv-loop μ-loop
 add-w c = search needs
 
--- src/lib.rt:306:17
 mul-wide : tie.Need-mul-wide Inv-loop μ-loop
 mul-wide c = search needs
 
--- src/lib.rt:306:17
 element-copy-out-wide : tie.Need-element-copy-out-wide Inv-loop μ-loop
 element-copy-out-wide c = search needs
 
--- src/lib.rt:306:12
 wide-requires : tie.Need-wide-requires Inv-loop μ-loop
 wide-requires c κs = search needs
 
--- src/lib.rt:307:20
 cast-result : tie.Need-cast-result Inv-loop μ-loop
 cast-result c = search needs
 
--- src/lib.rt:307:13
 returns : tie.Need-returns Inv-loop μ-loop
 returns c = search (needs, child-loop)
 
--- src/lib.rt:304:5
 loop-less : tie.Need-loop-less Inv-loop μ-loop
 loop-less c = search needs
 
--- src/lib.rt:304:5
 loop-again : tie.Need-loop-again Inv-loop μ-loop
 loop-again c = search (needs, child-loop)
 
--- src/lib.rt:299:1
 returns-2 : tie.Need-returns-2 Inv-loop μ-loop
 returns-2 c = search (needs, child-loop)
 

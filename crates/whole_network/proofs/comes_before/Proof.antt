@@ -1,56 +1,44 @@
+-- `whole_network::comes_before` meets its contract. Each return is one case of the order, by ranks and then by numbers.
+-- Assumes nothing.
 use native.Mathlib.Omega.{arith}
 use Rattle.histories.proofs.Orders.{before-higher, before-later, before-number, before-not}
 use borrow.Author.Needs.{needs}
 use Rattle.whole_network.proofs.comes_before.Statement.{statement}
 use Rattle.whole_network.proofs.comes_before.Tie as tie
-use Rattle.whole_network.proofs.comes_before.Reads as reads
-use Rattle.whole_network.proofs.comes_before.Lts as lts
 
--- src/lib.rt:376:8
 mul-if1 : tie.Need-mul-if1
 mul-if1 c = search needs
 
--- src/lib.rt:376:8
 element-copy-out-if1 : tie.Need-element-copy-out-if1
 element-copy-out-if1 c = search needs
 
--- src/lib.rt:376:18
 mul-if1-2 : tie.Need-mul-if1-2
 mul-if1-2 c = search needs
 
--- src/lib.rt:376:18
 element-copy-out-if1-2 : tie.Need-element-copy-out-if1-2
 element-copy-out-if1-2 c = search needs
 
--- src/lib.rt:377:9
 returns : tie.Need-returns
 returns c = (before-higher _ _ _ (omega arith), omega arith)
 
--- src/lib.rt:379:8
 mul-if2 : tie.Need-mul-if2
 mul-if2 c = search needs
 
--- src/lib.rt:379:8
 element-copy-out-if2 : tie.Need-element-copy-out-if2
 element-copy-out-if2 c = search needs
 
--- src/lib.rt:379:18
 mul-if2-2 : tie.Need-mul-if2-2
 mul-if2-2 c = search needs
 
--- src/lib.rt:379:18
 element-copy-out-if2-2 : tie.Need-element-copy-out-if2-2
 element-copy-out-if2-2 c = search needs
 
--- src/lib.rt:380:9
 returns-2 : tie.Need-returns-2
 returns-2 c = (before-later _ _ _ (omega arith), omega arith)
 
--- src/lib.rt:383:9
 returns-3 : tie.Need-returns-3
 returns-3 c = (before-number _ _ _ (omega arith) (omega arith) (omega arith), omega arith)
 
--- src/lib.rt:372:1
 returns-4 : tie.Need-returns-4
 returns-4 c = (before-not _ _ _ (omega arith) (omega arith), omega arith)
 

@@ -1,51 +1,41 @@
+-- `whole_network::least_start` meets its contract. The loop's invariant: the word so far stands for the least of the nodes passed. The measure is what is left of the nodes.
+-- Assumes nothing.
 use borrow.Author.Needs.{needs}
-use native.Mathlib.Omega.{arith}
 use mathlib.Core.Path.{_≡_}
-use Prim.Native.Nat.{_+_, _-_, _≤_}
+use Prim.Native.Nat.{_-_, _≤_}
 use Rattle.histories.specs.Histories.{leastOver}
 use Rattle.histories.specs.Words.{costOf, row}
 use Rattle.histories.proofs.Children.{over-loop}
 use Rattle.whole_network.proofs.least_start.Statement.{statement}
 use Rattle.whole_network.proofs.least_start.Tie as tie
-use Rattle.whole_network.proofs.least_start.Reads as reads
-use Rattle.whole_network.proofs.least_start.Lts as lts
-use Rattle.whole_network.proofs.lesser.Reads as lesser-reads
 
 abbrev Inv-loop : tie.InvT-loop
-Inv-loop n scratch r₀ v₀ r v = (v ≤ n) × (costOf r ≡ leastOver v (row n scratch 1))
+Inv-loop n scratch r₀ start₀ r start = (start ≤ n) × (costOf r ≡ leastOver start (row n scratch 1))
 
 abbrev μ-loop : tie.MeasureT-loop
-μ-loop n scratch r₀ v₀ r v = n - v
+μ-loop n scratch r₀ start₀ r start = n - start
 
--- src/lib.rt:291:5
 loop-holds : tie.Need-loop-holds Inv-loop μ-loop
 loop-holds c = search (needs, over-loop)
 
--- src/lib.rt:292:23
 mul-lesser : tie.Need-mul-lesser Inv-loop μ-loop
 mul-lesser c = search needs
 
--- src/lib.rt:292:23
 shared-slice-read-lesser : tie.Need-shared-slice-read-lesser Inv-loop μ-loop
 shared-slice-read-lesser c = search needs
 
--- src/lib.rt:292:9
 lesser-requires : tie.Need-lesser-requires Inv-loop μ-loop
 lesser-requires c κs = search needs
 
--- src/lib.rt:293:9
-add-v : tie.Need-add-v Inv-loop μ-loop
-add-v c = search needs
+add-start : tie.Need-add-start Inv-loop μ-loop
+add-start c = search needs
 
--- src/lib.rt:291:5
 loop-less : tie.Need-loop-less Inv-loop μ-loop
 loop-less c = search needs
 
--- src/lib.rt:291:5
 loop-again : tie.Need-loop-again Inv-loop μ-loop
 loop-again c = search (needs, over-loop)
 
--- src/lib.rt:285:1
 returns : tie.Need-returns Inv-loop μ-loop
 returns c = search (needs, over-loop)
 
@@ -59,7 +49,7 @@ least-start-spec =
     mul-lesser
     shared-slice-read-lesser
     lesser-requires
-    add-v
+    add-start
     loop-less
     loop-again
     returns)

@@ -1,20 +1,16 @@
-use borrow.Author.Needs.{needs}
+-- `whole_network::rest` meets its contract. Each return is one case of resting, by the first child of the node and the two species.
+-- Assumes nothing.
 use native.Mathlib.Omega.{arith}
 use Rattle.histories.proofs.Clauses.{rest-none, rest-other, rest-same}
 use Rattle.whole_network.proofs.rest.Statement.{statement}
 use Rattle.whole_network.proofs.rest.Tie as tie
-use Rattle.whole_network.proofs.rest.Reads as reads
-use Rattle.whole_network.proofs.rest.Lts as lts
 
--- src/lib.rt:68:9
 returns : tie.Need-returns
 returns c = λ y z. rest-none _ y z _ _ (λ e. omega arith)
 
--- src/lib.rt:71:9
 returns-2 : tie.Need-returns-2
 returns-2 c = λ y z. rest-other _ y z _ _ (omega arith) (λ e. omega arith)
 
--- src/lib.rt:64:1
 returns-3 : tie.Need-returns-3
 returns-3 c = λ y z. rest-same _ y z _ _ (omega arith) (omega arith)
 

@@ -1,25 +1,18 @@
-use native.Mathlib.Omega.{arith}
+-- `whole_network::speciate` meets its contract. Both ways to send the children down are sums of small words, and the answer is the lesser.
+-- Assumes nothing.
 use borrow.Author.Needs.{needs}
 use Rattle.whole_network.proofs.speciate.Statement.{statement}
 use Rattle.whole_network.proofs.speciate.Tie as tie
-use Rattle.whole_network.proofs.speciate.Reads as reads
-use Rattle.whole_network.proofs.speciate.Lts as lts
-use Rattle.whole_network.proofs.before_both.Reads as before-both-reads
-use Rattle.whole_network.proofs.lesser.Reads as lesser-reads
 
--- src/lib.rt:81:12
 before-both-requires : tie.Need-before-both-requires
 before-both-requires c κs = search needs
 
--- src/lib.rt:81:36
 before-both-requires-2 : tie.Need-before-both-requires-2
 before-both-requires-2 c κs = search needs
 
--- src/lib.rt:81:5
 lesser-requires : tie.Need-lesser-requires
 lesser-requires c κs = search needs
 
--- src/lib.rt:77:1
 returns : tie.Need-returns
 returns c = cc
 
