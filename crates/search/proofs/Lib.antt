@@ -1,0 +1,4 @@
+pub mod Preparing
+pub mod Steps
+pub mod Reporting
+pub mod Findings

@@ -1,0 +1,4 @@
+pub mod Prepared
+pub mod Steps
+pub mod Reported
+pub mod Searched
