@@ -1,0 +1,4 @@
+pub mod Whole
+pub mod Mapped
+pub mod Least
+pub mod Promise
