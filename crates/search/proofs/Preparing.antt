@@ -28,7 +28,7 @@ use Rattle.network.specs.Tables.{table, membersFrom, indexFrom, heightIn}
 use Rattle.network.specs.Verdict.{networkVerdict}
 use Rattle.network.proofs.Tables.{table-at, table-zero, table-out}
 use Rattle.network.proofs.Acceptance.{accepted}
-use Rattle.network.proofs.Reckoning.{members-are, indices-are, heights-are}
+use Rattle.network.proofs.TopTables.{members-are, indices-are, heights-are}
 use Rattle.mapping.specs.Switched.{switchedOf, taken, Switched, Held}
 use Rattle.mapping.specs.Settings.{bitOf, markFrom, markAt, markTable, Parted, Numbered, upTable}
 use Rattle.mapping.specs.Genes.{genesOf, Family}
@@ -214,7 +214,7 @@ prepared n principal secondary stamp species height top members index m left rig
       nodes = nn;
       sound = a .sound;
       few = a .few;
-      heights = eh ∙ heights-are n principal secondary stamp (a .sound);
+      heights = eh ∙ heights-are n principal secondary stamp;
       tops = et;
       sizes = em ∙ ap (λ (t : List ℕ). table n (membersFrom n secondary t)) et ∙ members-are n principal secondary stamp nn;
       indices = ei ∙ ap (λ (t : List ℕ). table n (indexFrom n secondary t)) et ∙ indices-are n principal secondary stamp nn;
