@@ -2,10 +2,9 @@
 -- costs below 1,000,000. A least cost lies below the word for no history, so each word tells its cost.
 -- Assumes nothing.
 use mathlib.Core.Path.{_≡_, refl, sym, _∙_, ap}
-use mathlib.Core.Logic.{_≢_}
-use mathlib.Core.Option.{Option, none, some}
+use mathlib.Core.Option.{none, some}
 use mathlib.Core.List.{List}
-use Prim.Native.Nat.{ℕ, _≤_, _<_}
+use Prim.Native.Nat.{ℕ, _<_}
 use native.Mathlib.Omega.{arith}
 use Rattle.gene_tree.specs.Genes.{leftTable, rightTable}
 use Rattle.histories.specs.Histories.{Family, Cost, Least, LeastOverall, least, overall}

@@ -1,8 +1,7 @@
 -- An admitted sheet under the LCA mapping: its network is sound and its gene tree rooted and seated, so the theorem of the optimum applies to it, and
 -- every number that the report writes is within the limits of the header.
 -- Assumes nothing.
-use mathlib.Core.Path.{_≡_, refl, sym, _∙_, ap}
-use mathlib.Core.Logic.{_≢_}
+use mathlib.Core.Path.{_≡_, refl}
 use mathlib.Core.List.{List}
 use Prim.Native.Nat.{ℕ, _*_, _≤_, _<_}
 use native.Mathlib.Omega.{arith}

@@ -7,9 +7,8 @@ use Prim.Native.Nat.{ℕ, zero, suc, _+_, _-_, _*_, _/_, _%_, _≤_, _<_}
 use native.Mathlib.Nat.{add-zero, div-add-mod', mod-lt}
 use native.Mathlib.Omega.{arith}
 use lib.ListN.{getD, drop, List·getD-append}
-use Rattle.histories.specs.Histories.{Family, Least, least, overall}
-use Rattle.histories.specs.Words.{word, costOf, cell, listed, wordAt, words}
-use Rattle.histories.specs.Families.{familyOf, familyFrom}
+use Rattle.histories.specs.Histories.{Family, least, overall}
+use Rattle.histories.specs.Words.{word, cell, listed, wordAt, words}
 use Rattle.histories.specs.Promise.{WholeNetwork}
 use Rattle.histories.proofs.Cells.{cell-in, cell-apart, length-words}
 use Rattle.acceptance.specs.Admitted.{wholeFamily, Admitted}

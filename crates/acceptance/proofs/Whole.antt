@@ -1,25 +1,24 @@
 -- An admitted sheet is what the whole-network cost asks for. A node's shape by its parents and arcs is one by their numbers; a species is borne by a
 -- leaf alone, so a leaf gene has a leaf to rest at.
 -- Assumes nothing.
-use mathlib.Core.Path.{_≡_, refl, sym, _∙_, ap}
+use mathlib.Core.Path.{_≡_, sym, _∙_, ap}
 use mathlib.Core.Logic.{_≢_}
 use mathlib.Core.Bool.{true}
 use mathlib.Core.List.{List}
 use Prim.Native.Nat.{ℕ, _+_, _≤_, _<_}
 use native.Mathlib.Omega.{arith}
 use Rattle.finite.specs.Range.{children}
-use Rattle.finite.specs.Tables.{at, within}
+use Rattle.finite.specs.Tables.{at}
 use Rattle.finite.proofs.Cases.{byEq}
 use Rattle.finite.proofs.Tests.{is-same}
 use Rattle.finite.proofs.Tables.{within-in}
-use Rattle.topology.specs.Networks.{Network, Node, Sound}
+use Rattle.topology.specs.Networks.{Network, Node}
 use Rattle.topology.specs.Tables.{networkOf}
-use Rattle.network.specs.Refusals.{Numbered, IsInner}
+use Rattle.network.specs.Refusals.{Numbered}
 use Rattle.network.specs.Refusals.{Shape as NodeShape, reticulation as isReticulation, inner as isInner, leaf as isLeaf}
-use Rattle.network.specs.Verdict.{LeafOf, ShapeOf, AcceptedNetwork, Accepted as NetworkAccepted}
+use Rattle.network.specs.Verdict.{ShapeOf, AcceptedNetwork, Accepted as NetworkAccepted}
 use Rattle.network.proofs.Acceptance.{accepted, node-is, secondary-at, arcs-principal, arcs-secondary}
-use Rattle.reconciliation.specs.GeneTrees.{GeneTree, Rooted}
-use Rattle.gene_tree.specs.Refusals.{childCount, treeFits, bearer, geneVerdict}
+use Rattle.gene_tree.specs.Refusals.{childCount, treeFits, bearer}
 use Rattle.gene_tree.specs.Genes.{leftOf, rightOf, geneTreeOf, leftTable, rightTable}
 use Rattle.gene_tree.proofs.Refusals.{gene-first, gene-below, tree-gene, bearer-in, seat-leaf, accept-tree, accept-seats}
 use Rattle.gene_tree.proofs.Genes.{left-child, left-in, left-entry, right-in, right-entry, right-after, left-held, right-held}
