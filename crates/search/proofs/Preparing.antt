@@ -108,6 +108,18 @@ module _ (n : ℕ) (principal secondary stamp height top members index : List �
     seated = record { seat = λ g l h e. let k = P .family .seated .seat g l h e in record { low = k .low; high = k .high } };
   }
 
+  -- tables of marks and parents that hold a switching, whatever they were made of
+  pub held-tables : (σ : Switching) (up on : List ℕ) → ((v : ℕ) → at up v ≡ parent N σ v) → ((v : ℕ) → at on v ≡ tally (onSecondary N σ v)) → Held N σ n up on height
+  unfolding networkOf rankFrom
+  held-tables σ up on parents marks = record {
+    size = refl;
+    parents = parents;
+    marks = marks;
+    heights = height-at;
+    past = height-past;
+    flat = λ v l. rw (within-out n (at secondary) v l, within-out n (at stamp) v l, is-same {m = 0} refl);
+  }
+
   -- marks and parents that hold a switching
   module _ (σ : Switching) (up on : List ℕ) (marks : (v : ℕ) → at on v ≡ tally (onSecondary N σ v)) (e : up ≡ upTable n principal secondary on) where
     held : Held N σ n up on height

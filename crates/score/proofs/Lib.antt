@@ -1,0 +1,5 @@
+pub mod Refusals
+pub mod Outcomes
+pub mod Promises
+pub mod Lines
+pub mod Families

@@ -1,0 +1,4 @@
+pub mod Families
+pub mod Refusals
+pub mod Outcome
+pub mod Stages
