@@ -31,7 +31,7 @@ pub loaded-end : (i k : ℕ) (l : List ℕ) → Loaded i l → i ≤ k → k ≤
 loaded-end i k l L a b = let e : i ≡ k = omega arith in rw e at L
 
 pub loaded-dated : (n : ℕ) (l : List ℕ) → Loaded n l → Dated n l
-loaded-dated n l L = record { small = λ v _. L .small v }
+loaded-dated n l L = record { small = λ v _ _. L .small v }
 
 pub loaded-within : (m : ℕ) (l : List ℕ) → Loaded m l → at l ≡ within m (at l)
 loaded-within m l L = fun-ext (λ v. byEq v 0

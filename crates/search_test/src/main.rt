@@ -428,10 +428,10 @@ fn searched(
     requires { ⌜ (n ≤ 127) × (1 ≤ m) × (m ≤ 127) × Cheap u × Loaded n (now stamp) × Loaded m (now mother) ⌝ }
     requires { ⌜ (networkVerdict n (now principal) (now secondary) (now stamp) (now species) ≡ 0) × (geneVerdict n m (now mother) (now genes) (now species) ≡ 0) ⌝ }
 {
-    let height = network::heights(n, secondary, stamp);
-    let top = network::tops(n, principal, secondary, stamp);
-    let members = network::members(n, secondary, &top);
-    let index = network::indices(n, secondary, &top);
+    let height = network::climbs::heights(n, secondary, stamp);
+    let top = network::climbs::tops(n, principal, secondary, stamp);
+    let members = network::components::members(n, secondary, &top);
+    let index = network::components::indices(n, secondary, &top);
     let left = gene_tree::left_children(m, mother);
     let right = gene_tree::right_children(m, mother);
     let leaf = gene_tree::leaf_nodes(m, genes, n, species);

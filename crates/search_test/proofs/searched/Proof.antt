@@ -11,10 +11,10 @@ use Rattle.search_test.proofs.searched.Lts as lts
 use Rattle.gene_tree.proofs.leaf_nodes.Reads as leaf-nodes-reads
 use Rattle.gene_tree.proofs.left_children.Reads as left-children-reads
 use Rattle.gene_tree.proofs.right_children.Reads as right-children-reads
-use Rattle.network.proofs.heights.Reads as heights-reads
-use Rattle.network.proofs.indices.Reads as indices-reads
-use Rattle.network.proofs.members.Reads as members-reads
-use Rattle.network.proofs.tops.Reads as tops-reads
+use Rattle.network.proofs.climbs.heights.Reads as heights-reads
+use Rattle.network.proofs.components.indices.Reads as indices-reads
+use Rattle.network.proofs.components.members.Reads as members-reads
+use Rattle.network.proofs.climbs.tops.Reads as tops-reads
 use Rattle.search.proofs.run.Reads as run-reads
 
 -- src/main.rt:421:18
