@@ -3,3 +3,4 @@ pub mod Outcomes
 pub mod Promises
 pub mod Lines
 pub mod Families
+pub mod Answers

@@ -28,10 +28,10 @@ use Rattle.score.specs.Outcome.{reportIn, answerBy, Outcome, Reported, P
 use Rattle.score.proofs.Refusals.{none-found, refusal-iff, accepted-iff}
 use Rattle.score.proofs.Outcomes.{stamps-small}
 
-apart : {A : Type 0} {b k : ℕ} → Report b ≡ Refused k → A
+pub apart : {A : Type 0} {b k : ℕ} → Report b ≡ Refused k → A
 apart e = let z : _≡_ {A = ℕ} 0 1 = cc in absurd (omega arith)
 
-same-number : {j k : ℕ} → Refused j ≡ Refused k → j ≡ k
+pub same-number : {j k : ℕ} → Refused j ≡ Refused k → j ≡ k
 same-number e = cc
 
 -- which refusal the answer tells
