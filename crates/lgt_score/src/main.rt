@@ -13,7 +13,22 @@ fn refused_line(k: u32) -> [u8; 14]
     requires { ⌜ k ≤ 13 ⌝ }
     ensures { λ r. ⌜ r ≡ refusedLine k ⌝ }
 {
-    let mut line = [b'r', b'e', b'f', b'u', b's', b'e', b'd', 0, 0, 0, 0, 0, 0, 10];
+    let mut line = [
+        b'r',
+        b'e',
+        b'f',
+        b'u',
+        b's',
+        b'e',
+        b'd',
+        0,
+        0,
+        0,
+        0,
+        0,
+        0,
+        10,
+    ];
     columns::write_field(&mut line[7..], k);
     line
 }
