@@ -2,7 +2,6 @@
 
 use std::fmt::Write;
 use std::hint::black_box;
-use std::time::{Duration, Instant};
 
 use crate::differential::Tally;
 use crate::families::{self, Family, GeneShape, Growth, NetworkPlan};
@@ -11,8 +10,26 @@ use crate::reference::{self, RESULT_BYTES, SCRATCH_WORDS, whole};
 use crate::{damage, proved};
 
 /// Rounds in which both are timed one after the other, and how long each lasts in a round.
-const ROUNDS: usize = 15;
-const ROUND_TIME: Duration = Duration::from_millis(60);
+const ROUNDS: usize = 25;
+const ROUND_TIME: f64 = 50_000.0;
+
+/// Processor time of this thread in microseconds: other work on the machine does not count.
+fn microseconds_used() -> f64 {
+    #[repr(C)]
+    struct Timespec {
+        seconds: i64,
+        nanoseconds: i64,
+    }
+    unsafe extern "C" {
+        fn clock_gettime(clock: i32, time: *mut Timespec) -> i32;
+    }
+    const CLOCK_THREAD_CPUTIME_ID: i32 = 3;
+    let mut time = Timespec { seconds: 0, nanoseconds: 0 };
+    // SAFETY: Linux on 64 bits lays out a timespec as above, and the C library is always linked.
+    let failed = unsafe { clock_gettime(CLOCK_THREAD_CPUTIME_ID, &mut time) };
+    assert_eq!(failed, 0, "the thread has a clock");
+    time.seconds as f64 * 1e6 + time.nanoseconds as f64 / 1e3
+}
 
 /// Sheets of one kind.
 struct Workload {
@@ -47,19 +64,22 @@ impl Timer {
 
     /// Microseconds a sheet over `passes` passes over the texts.
     fn microseconds(&mut self, score: Score, texts: &[Vec<u8>], passes: usize) -> f64 {
-        let start = Instant::now();
+        let start = microseconds_used();
         for _ in 0..passes {
             for text in texts {
                 black_box(score(black_box(text), &mut self.result, &mut self.scratch));
             }
         }
-        start.elapsed().as_secs_f64() * 1e6 / (passes * texts.len()) as f64
+        (microseconds_used() - start) / (passes * texts.len()) as f64
     }
 
     fn line(&mut self, workload: &Workload) -> Line {
         let texts = &workload.texts;
-        let once = self.microseconds(by_reference, texts, 1).max(self.microseconds(proved::score, texts, 1));
-        let passes = (ROUND_TIME.as_secs_f64() * 1e6 / (once * texts.len() as f64)).ceil().max(1.0) as usize;
+        // The first pass warms the caches, the second says how many passes a round takes.
+        let [_, once] = [1, 2].map(|_| {
+            self.microseconds(by_reference, texts, 1).max(self.microseconds(proved::score, texts, 1))
+        });
+        let passes = (ROUND_TIME / (once * texts.len() as f64)).ceil().clamp(1.0, 1e6) as usize;
         let mut times = [vec![], vec![]];
         let mut ratios = vec![];
         for round in 0..ROUNDS {
@@ -131,9 +151,13 @@ fn workloads(random: &mut Random) -> Vec<Workload> {
         sheets("(a) typical: 11 species, 2 highways, 21 genes", 500, || families::typical(random, 11, 2, 21)),
         sheets("(b) most trials, deep: 896, n = m = 127", 6, || families::largest(random, 31, Growth::Deep)),
         sheets("(b) most trials, wide: 896, n = m = 127", 6, || families::largest(random, 31, Growth::Wide)),
-        sheets("(b) most trials, mixed: 896, n = m = 127", 6, || families::largest(random, 31, Growth::Anywhere)),
+        sheets("(b) most trials, mixed: 896, n = m = 127", 6, || {
+            families::largest(random, 31, Growth::Anywhere)
+        }),
         sheets("(c) no reticulation, deep: n = m = 127", 30, || families::largest(random, 0, Growth::Deep)),
-        sheets("(c) no reticulation, mixed: n = m = 127", 30, || families::largest(random, 0, Growth::Anywhere)),
+        sheets("(c) no reticulation, mixed: n = m = 127", 30, || {
+            families::largest(random, 0, Growth::Anywhere)
+        }),
     ];
     for m in [1, 15, 31, 63, 127] {
         all.push(sheets(&format!("(d) m = {m}: n = 63, 4 in a component"), 30, || sized(random, 63, 4, m)));
@@ -144,7 +168,9 @@ fn workloads(random: &mut Random) -> Vec<Workload> {
     for r in [0, 1, 2, 4, 6, 8, 16, 31] {
         all.push(sheets(&format!("(d) {r} reticulations: n = m = 127"), 8, || sized(random, 127, r, 127)));
     }
-    all.push(garbage("refusal 3: 7,905 random bytes", 50, || (0..7_905).map(|_| random.next() as u8).collect()));
+    all.push(garbage("refusal 3: 7,905 random bytes", 50, || {
+        (0..7_905).map(|_| random.next() as u8).collect()
+    }));
     all.push(garbage("refusal 5: largest sheet, its last byte wrong", 20, || {
         let mut text = families::largest(random, 8, Growth::Anywhere).text();
         *text.last_mut().expect("a byte") = b' ';
@@ -227,13 +253,13 @@ fn table_alone(random: &mut Random, timer: &mut Timer) -> String {
         let mut times = vec![];
         for _ in 0..ROUNDS {
             let passes = 10;
-            let start = Instant::now();
+            let start = microseconds_used();
             for _ in 0..passes {
                 for (sheet, network, genes) in &families {
                     black_box(whole::fill(black_box(sheet), network, genes, &mut timer.scratch));
                 }
             }
-            times.push(start.elapsed().as_secs_f64() * 1e6 / (passes * families.len()) as f64);
+            times.push((microseconds_used() - start) / (passes * families.len()) as f64);
         }
         let time = median(&mut times);
         let name = format!("(c) table alone, {name}: n = m = 127");
@@ -245,10 +271,11 @@ fn table_alone(random: &mut Random, timer: &mut Timer) -> String {
 /// Cores and processor family, without the name of the machine.
 pub fn machine_class() -> String {
     let cores = std::thread::available_parallelism().map_or(1, |count| count.get());
-    let model = std::fs::read_to_string("/proc/cpuinfo")
-        .ok()
-        .and_then(|text| text.lines().find_map(|line| line.strip_prefix("model name")?.split(':').nth(1).map(str::trim).map(String::from)))
-        .unwrap_or_else(|| "processor unknown".to_string());
+    let about = std::fs::read_to_string("/proc/cpuinfo").unwrap_or_default();
+    let model = about
+        .lines()
+        .find_map(|line| line.strip_prefix("model name")?.split_once(':'))
+        .map_or("processor unknown", |(_, model)| model.trim());
     format!("{}, {cores} cores, {model}", std::env::consts::ARCH)
 }
 
@@ -266,7 +293,7 @@ The proved entry beside an independent implementation in ordinary Rust (`compare
 
 - Machine: {machine}. Date: {date}.
 - Rerun: `compare/run` from the root of the repository; `compare/run --write` renews this page.
-- Times are microseconds a sheet for the whole call, from bytes to report (medians of {ROUNDS} rounds); \"/s\" is families a second. The ratio is the proved entry's time over Rust's, as the median of the rounds' ratios with the least and the greatest; below 1 the proved entry is faster.
+- Times are microseconds of processor time a sheet for the whole call, from bytes to report (medians of {ROUNDS} rounds); \"/s\" is families a second. The ratio is the proved entry's time over Rust's, as the median of the rounds' ratios with the least and the greatest; below 1 the proved entry is faster.
 - \"Most trials\" is the largest search that refusal 10 leaves room for at n = 127: 31 reticulations in components of 8, 8, 8 and 7, so 896 trials.
 - The static library exports the whole call only. For the whole-network table the call on a network without reticulations stands for it; the last two lines time the table alone on the Rust side.
 - Before the times were taken, both gave the same answer, result, scratch and untouched rest on {} sheets ({} scored, {} of these also by enumerating {} settings); mismatches: {}.

@@ -59,7 +59,11 @@ fn limits(random: &mut Random, family: &Family) -> Vec<u8> {
     let [d, t, l] = family.costs;
     let mut numbers = [family.nodes.len() as u32, family.genes.len() as u32, d, t, l];
     let which = random.below(5);
-    numbers[which] = *random.pick(if which < 2 { &[0, 128, 129, 255, 256, 999_999] } else { &[100, 101, 128, 256, 999_999] });
+    numbers[which] = *random.pick(if which < 2 {
+        &[0, 128, 129, 255, 256, 999_999]
+    } else {
+        &[100, 101, 128, 256, 999_999]
+    });
     let mut text = Vec::new();
     push_line(&mut text, numbers);
     text.extend_from_slice(&family.text()[31..]);
@@ -85,7 +89,11 @@ fn lines(random: &mut Random, family: &Family) -> Vec<u8> {
             // A number filled with zeros, or none at all.
             let field = start + 6 * random.below(5);
             let filling = *random.pick(b"0 ");
-            text[field..field + 6].iter_mut().for_each(|byte| if *byte == b' ' { *byte = filling });
+            text[field..field + 6].iter_mut().for_each(|byte| {
+                if *byte == b' ' {
+                    *byte = filling
+                }
+            });
             if filling == b' ' {
                 text[field..field + 6].fill(b' ');
             }
@@ -133,7 +141,8 @@ fn shape(random: &mut Random, family: &mut Family) {
     let number = |j: usize| j as u32 + 1;
     let beside: Vec<u32> =
         (0..family.nodes.len()).filter(|&j| j != i && family.nodes[j].stamp == stamp).map(number).collect();
-    let above: Vec<u32> = (0..family.nodes.len()).filter(|&j| family.nodes[j].stamp < stamp).map(number).collect();
+    let above: Vec<u32> =
+        (0..family.nodes.len()).filter(|&j| family.nodes[j].stamp < stamp).map(number).collect();
     let node = &mut family.nodes[i];
     match random.below(3) {
         0 => node.secondary = 0,

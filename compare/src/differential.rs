@@ -75,15 +75,13 @@ enum Enumerate {
 }
 
 pub fn run(bounds: Bounds) -> Tally {
-    let mut fill = Random::new(!bounds.seed);
+    let mut filling = Random::new(!bounds.seed);
     let mut run = Run {
-        result: Buffers::new(RESULT_BYTES, || fill.next() as u8),
-        scratch: Buffers::new(SCRATCH_WORDS, || 0),
+        result: Buffers::new(RESULT_BYTES, || filling.next() as u8),
+        scratch: Buffers::new(SCRATCH_WORDS, || filling.next() as u32),
         tally: Tally::default(),
         end: Instant::now() + Duration::from_secs(bounds.seconds),
     };
-    run.scratch = Buffers::new(SCRATCH_WORDS, || fill.next() as u32);
-
     let share = |usual: u64| (usual * bounds.percent / 100).max(1);
     let mut seed = bounds.seed;
     let mut random = || {
@@ -95,6 +93,9 @@ pub fn run(bounds: Bounds) -> Tally {
     });
     run.kind("middling families, enumerated", share(1_500), &mut random(), Enumerate::Yes, |random| {
         families::any(random, 18, 14).text()
+    });
+    run.kind("many reticulations, enumerated", share(300), &mut random(), Enumerate::Yes, |random| {
+        families::dense(random, 8, 10).text()
     });
     run.kind("families of all sizes", share(25_000), &mut random(), Enumerate::No, |random| {
         families::any(random, 63, 64).text()
@@ -186,8 +187,11 @@ impl Run {
         // An allocation of its own size: a read past the end of the text is a read past the allocation.
         let lent: Box<[u8]> = text.into();
         let (bytes, words) = (GUARD..GUARD + result_length, GUARD..GUARD + scratch_length);
-        let by_proved =
-            proved::score(&lent, &mut self.result.proved[bytes.clone()], &mut self.scratch.proved[words.clone()]);
+        let by_proved = proved::score(
+            &lent,
+            &mut self.result.proved[bytes.clone()],
+            &mut self.scratch.proved[words.clone()],
+        );
         let by_reference = reference::score(
             text,
             &mut self.result.reference[bytes.clone()],
@@ -232,15 +236,24 @@ impl Run {
                 let table = &self.scratch.reference[words][..read.n * read.m];
                 expect(table == settled.table, "the scratch is not that of the enumeration");
                 let tail = GUARD + by_reference as usize;
-                expect(self.result.reference[tail..] == self.result.before[tail..], "bytes past the report changed");
+                expect(
+                    self.result.reference[tail..] == self.result.before[tail..],
+                    "bytes past the report changed",
+                );
                 let tail = GUARD + read.n * read.m;
-                expect(self.scratch.reference[tail..] == self.scratch.before[tail..], "words past the table changed");
+                expect(
+                    self.scratch.reference[tail..] == self.scratch.before[tail..],
+                    "words past the table changed",
+                );
             }
         }
         if !faults.is_empty() {
             self.tally.mismatches += 1;
             if self.tally.mismatches <= SHOWN {
-                println!("MISMATCH: {}; result {result_length}, scratch {scratch_length}, sheet:", faults.join("; "));
+                println!(
+                    "MISMATCH: {}; result {result_length}, scratch {scratch_length}, sheet:",
+                    faults.join("; ")
+                );
                 println!("{}", String::from_utf8_lossy(text));
             }
         }
@@ -259,7 +272,10 @@ impl Tally {
 
     pub fn print(&self) {
         println!("sheets      {:>9}", self.sheets);
-        println!("scored      {:>9}, {} with a secondary parent taken, at most {} trials", self.reports, self.secondary, self.most_trials);
+        println!(
+            "scored      {:>9}, {} with a secondary parent taken, at most {} trials",
+            self.reports, self.secondary, self.most_trials
+        );
         println!("enumerated  {:>9}, {} settings", self.enumerated, self.settings_enumerated);
         for number in 1..14 {
             println!("refused {number:>2}  {:>9}", self.refusals[number]);

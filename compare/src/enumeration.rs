@@ -69,10 +69,12 @@ impl<'a> View<'a> {
     }
 
     fn on_arcs(&self, setting: &[bool]) -> Vec<(usize, usize, bool)> {
-        let is_on = |&(_, v, secondary): &(usize, usize, bool)| match self.reticulations.iter().position(|&r| r == v) {
-            Some(j) => setting[j] == secondary,
-            None => true,
-        };
+        let is_on =
+            |&(_, v, secondary): &(usize, usize, bool)| match self.reticulations.iter().position(|&r| r == v)
+            {
+                Some(j) => setting[j] == secondary,
+                None => true,
+            };
         self.arcs.iter().copied().filter(is_on).collect()
     }
 
@@ -82,7 +84,9 @@ impl<'a> View<'a> {
 
     fn leaf_of(&self, g: usize) -> usize {
         let species = self.sheet.gene_species[g];
-        (1..=self.sheet.n).find(|&v| species != 0 && self.sheet.species[v] == species).expect("the species has a leaf")
+        (1..=self.sheet.n)
+            .find(|&v| species != 0 && self.sheet.species[v] == species)
+            .expect("the species has a leaf")
     }
 
     fn place(&self, setting: &[bool]) -> Placed {
@@ -102,8 +106,14 @@ impl<'a> View<'a> {
             };
         }
         let out = |v: usize| arcs.iter().filter(move |arc| arc.0 == v);
-        let mut placed =
-            Placed { cost: 0, duplications: 0, transfers: 0, losses: 0, setting: setting.to_vec(), genes: Vec::new() };
+        let mut placed = Placed {
+            cost: 0,
+            duplications: 0,
+            transfers: 0,
+            losses: 0,
+            setting: setting.to_vec(),
+            genes: Vec::new(),
+        };
         for g in 1..=m {
             let children = self.gene_children(g);
             let place = places[g];
@@ -120,8 +130,10 @@ impl<'a> View<'a> {
                 let parent = self.sheet.gene_parent[g] as usize;
                 let from = places[parent];
                 let on_way = |v: usize| reaches[from][v] && reaches[v][place];
-                transfers = arcs.iter().filter(|&&(u, v, secondary)| secondary && on_way(u) && on_way(v)).count();
-                losses = (1..=n).filter(|&v| v != from && v != place && on_way(v) && out(v).count() == 2).count();
+                transfers =
+                    arcs.iter().filter(|&&(u, v, secondary)| secondary && on_way(u) && on_way(v)).count();
+                losses =
+                    (1..=n).filter(|&v| v != from && v != place && on_way(v) && out(v).count() == 2).count();
                 if placed.genes[parent - 1][1] == 2 && place != from {
                     losses += 1;
                 }
@@ -229,7 +241,8 @@ impl<'a> View<'a> {
         ];
         for (&r, &secondary) in self.reticulations.iter().zip(&placed.setting) {
             let piece = with_any.iter().find(|piece| piece.contains(&r)).expect("a component");
-            let tops: Vec<usize> = piece.iter().copied().filter(|&t| piece.iter().all(|&v| reaches[t][v])).collect();
+            let tops: Vec<usize> =
+                piece.iter().copied().filter(|&t| piece.iter().all(|&v| reaches[t][v])).collect();
             assert_eq!(tops.len(), 1, "a component has one top");
             let taken = if secondary { sheet.secondary[r] } else { sheet.principal[r] };
             lines.push([r as u32, taken, secondary.into(), tops[0] as u32, inside(piece) as u32]);

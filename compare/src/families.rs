@@ -197,7 +197,8 @@ impl Grower<'_> {
         let strangers: Vec<usize> =
             others.iter().copied().filter(|&i| members[i].source != members[to].source).collect();
         // In a dense clade a donor that is no twin keeps all reticulations in one component.
-        let from = *self.random.pick(if self.plan.dense && !strangers.is_empty() { &strangers } else { &others });
+        let from =
+            *self.random.pick(if self.plan.dense && !strangers.is_empty() { &strangers } else { &others });
         let (giver, taker) = (members[from], members[to]);
         let latest = self.nodes[giver.source - 1].stamp.max(self.nodes[taker.source - 1].stamp);
         let stamp = latest + 1 + self.random.within(0, self.plan.stamp_gap) as u32;
@@ -340,7 +341,8 @@ pub fn any(random: &mut Random, most_events: usize, most_leaves: usize) -> Famil
 }
 
 pub fn any_genes(random: &mut Random, nodes: &[Node], most_leaves: usize) -> Vec<Gene> {
-    let mut species: Vec<u32> = nodes.iter().map(|node| node.species).filter(|&species| species != 0).collect();
+    let mut species: Vec<u32> =
+        nodes.iter().map(|node| node.species).filter(|&species| species != 0).collect();
     if random.once_in(5) {
         let few = random.within(1, species.len().min(3));
         random.shuffle(&mut species);
@@ -353,6 +355,24 @@ pub fn any_genes(random: &mut Random, nodes: &[Node], most_leaves: usize) -> Vec
         2 => gene_tree(random, leaves, GeneShape::Balanced, &species),
         _ => gene_tree(random, leaves, GeneShape::Anyhow, &species),
     }
+}
+
+/// A family with `transfers` reticulations in components of any size up to 8, and about as many
+/// speciations, whose gene tree has at most `most_leaves` leaves.
+pub fn dense(random: &mut Random, transfers: usize, most_leaves: usize) -> Family {
+    let plan = NetworkPlan {
+        speciations: transfers + random.below(4),
+        transfers,
+        in_component: *random.pick(&[2, 3, 4, 8]),
+        dense: true,
+        only_reticulations: false,
+        growth: *random.pick(&[Growth::Deep, Growth::Wide, Growth::Anywhere]),
+        stamp_gap: 1,
+        shuffled: true,
+    };
+    let nodes = network(random, plan);
+    let genes = any_genes(random, &nodes, most_leaves);
+    Family { costs: costs(random), nodes, genes }
 }
 
 /// The largest size, 127 nodes and 127 genes, with as many transfers as the rules allow (31) where

@@ -5,7 +5,8 @@ use std::process::ExitCode;
 use compare::differential::{self, Bounds};
 use compare::{benchmark, proved};
 
-const USAGE: &str = "compare [--seed N] [--percent N] [--seconds N] [--no-benchmark] [--write FILE --date DATE]
+const USAGE: &str =
+    "compare [--seed N] [--percent N] [--seconds N] [--no-benchmark] [--write FILE --date DATE]
 
   --seed N        the seed of all sheets (1)
   --percent N     how many sheets, in percent of the usual number (100)
@@ -48,7 +49,10 @@ fn main() -> ExitCode {
         return ExitCode::FAILURE;
     };
     let Bounds { seed, percent, seconds } = options.bounds;
-    println!("proved entry: {}", if proved::LINKED { "static library" } else { "NOT LINKED, the Rust implementation stands in" });
+    println!(
+        "proved entry: {}",
+        if proved::LINKED { "static library" } else { "NOT LINKED, the Rust implementation stands in" }
+    );
     println!("differential run, seed {seed}, {percent} percent, at most {seconds} s");
     let tally = differential::run(options.bounds);
     tally.print();

@@ -63,8 +63,10 @@ fn answer(sheet: &str) -> Result<String, u32> {
 /// Cost, duplications, transfers, losses, trials; whole-network cost; 1 for each reticulation on secondary.
 fn summary(sheet: &str) -> (Vec<u32>, u32, Vec<u32>) {
     let report = answer(sheet).expect("a report");
-    let lines: Vec<Vec<u32>> =
-        report.lines().map(|line| line.split_whitespace().map(|field| field.parse().unwrap()).collect()).collect();
+    let lines: Vec<Vec<u32>> = report
+        .lines()
+        .map(|line| line.split_whitespace().map(|field| field.parse().unwrap()).collect())
+        .collect();
     let reticulations = lines[1][3] as usize;
     let taken = lines[2..2 + reticulations].iter().map(|line| line[2]).collect();
     (lines[0].clone(), lines[1][0], taken)

@@ -50,7 +50,8 @@ impl Network {
 
     /// The component of each reticulation, reticulations rising.
     pub fn reticulations(&self) -> Vec<(u8, &Component)> {
-        let mut all: Vec<_> = self.components.iter().flat_map(|c| c.reticulations.iter().map(move |&r| (r, c))).collect();
+        let mut all: Vec<_> =
+            self.components.iter().flat_map(|c| c.reticulations.iter().map(move |&r| (r, c))).collect();
         all.sort_unstable_by_key(|&(r, _)| r);
         all
     }
@@ -124,13 +125,23 @@ fn check_shape(sheet: &Sheet) -> Result<Network, Refusal> {
     for v in 1..=sheet.n {
         let sound = match (secondary[v] != 0, principal_arcs[v], secondary_arcs[v]) {
             (true, by_principal, by_secondary) => (by_principal, by_secondary) == (1, 0),
-            (false, by_principal, by_secondary) => matches!((by_principal, by_secondary), (0, 0) | (2, 0) | (1, 1)),
+            (false, by_principal, by_secondary) => {
+                matches!((by_principal, by_secondary), (0, 0) | (2, 0) | (1, 1))
+            }
         };
         if !sound {
             return Err(Refusal::Shape);
         }
     }
-    Ok(Network { n: sheet.n, principal, secondary, children, recipient, order: Vec::new(), components: Vec::new() })
+    Ok(Network {
+        n: sheet.n,
+        principal,
+        secondary,
+        children,
+        recipient,
+        order: Vec::new(),
+        components: Vec::new(),
+    })
 }
 
 /// Refusal 9.
@@ -189,8 +200,14 @@ enum Arc {
 impl<'a> Pieces<'a> {
     fn of(network: &'a Network) -> Self {
         let zeros = [0; MOST + 1];
-        let mut pieces =
-            Pieces { network, met: zeros, low: zeros, clock: 0, open: Vec::with_capacity(network.n), piece: zeros };
+        let mut pieces = Pieces {
+            network,
+            met: zeros,
+            low: zeros,
+            clock: 0,
+            open: Vec::with_capacity(network.n),
+            piece: zeros,
+        };
         pieces.visit(network.order[0], None);
         pieces
     }

@@ -6,11 +6,18 @@ use super::search::Outcome;
 use super::sheet::{FIELD, FIELDS, LINE};
 
 /// Writes the report at the start of `result`; gives the bytes written.
-pub fn write(network: &Network, genes: &GeneTree, outcome: &Outcome, whole_cost: u32, result: &mut [u8]) -> usize {
+pub fn write(
+    network: &Network,
+    genes: &GeneTree,
+    outcome: &Outcome,
+    whole_cost: u32,
+    result: &mut [u8],
+) -> usize {
     let length = result.len();
     let reticulations = network.reticulations();
     let counts = &outcome.counts;
-    let mut rest = line(result, [counts.cost, counts.duplications, counts.transfers, counts.losses, outcome.trials]);
+    let mut rest =
+        line(result, [counts.cost, counts.duplications, counts.transfers, counts.losses, outcome.trials]);
     rest = line(
         rest,
         [
@@ -27,7 +34,13 @@ pub fn write(network: &Network, genes: &GeneTree, outcome: &Outcome, whole_cost:
         let taken = if secondary { network.secondary[v] } else { network.principal[v] };
         rest = line(
             rest,
-            [r.into(), taken.into(), secondary.into(), component.top.into(), component.reticulations.len() as u32],
+            [
+                r.into(),
+                taken.into(),
+                secondary.into(),
+                component.top.into(),
+                component.reticulations.len() as u32,
+            ],
         );
     }
     for (g, gene) in (1..).zip(&outcome.genes) {

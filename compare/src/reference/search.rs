@@ -61,7 +61,8 @@ pub fn run(sheet: &Sheet, network: &Network, genes: &GeneTree) -> Outcome {
         }
     }
     for component in &network.components {
-        let setting = component.reticulations.iter().fold(0, |s, &r| 2 * s + u32::from(secondary[usize::from(r)]));
+        let setting =
+            component.reticulations.iter().fold(0, |s, &r| 2 * s + u32::from(secondary[usize::from(r)]));
         tree.set(&component.reticulations, setting);
     }
     let cost = placement.cost(&tree);
@@ -234,8 +235,9 @@ fn detail(
         counts.losses += losses;
         outcomes.push(GeneOutcome { place: tree.node(at) as u8, event, transfers, losses });
     }
-    counts.cost =
-        sheet.duplication * counts.duplications + sheet.transfer * counts.transfers + sheet.loss * counts.losses;
+    counts.cost = sheet.duplication * counts.duplications
+        + sheet.transfer * counts.transfers
+        + sheet.loss * counts.losses;
     (counts, outcomes)
 }
 

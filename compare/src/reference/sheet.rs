@@ -95,7 +95,7 @@ fn field(columns: &[u8]) -> Option<u32> {
     if digits.is_empty() || digits.len() > 1 && digits[0] == b'0' {
         return None;
     }
-    digits.iter().try_fold(0, |number, byte| {
-        byte.is_ascii_digit().then(|| 10 * number + u32::from(byte - b'0'))
-    })
+    digits
+        .iter()
+        .try_fold(0, |number, byte| byte.is_ascii_digit().then(|| 10 * number + u32::from(byte - b'0')))
 }
