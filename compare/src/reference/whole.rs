@@ -7,68 +7,88 @@ use super::sheet::Sheet;
 /// What stands where no history exists. Sums saturate, so it stays what it is.
 pub const NO_HISTORY: u32 = u32::MAX;
 
+/// What leaves a node. Nodes are counted from 0 here, as the words of a row are.
+#[derive(Clone, Copy)]
+enum Arcs {
+    None,
+    Principal(u8),
+    TwoPrincipal(u8, u8),
+    PrincipalAndSecondary(u8, u8),
+}
+
 /// Fills the first n × m words of `scratch`, a row a gene, and gives the least cost of gene 1 at any node.
 pub fn fill(sheet: &Sheet, network: &Network, genes: &GeneTree, scratch: &mut [u32]) -> u32 {
     let n = network.n;
+    let arcs: Vec<(u8, Arcs)> = targets_first(network).collect();
     // Children have higher numbers than their parents: their rows are complete when they are read.
     for g in (1..=genes.m).rev() {
         let (upper, below) = scratch.split_at_mut(g * n);
         let row = &mut upper[(g - 1) * n..];
         match genes.children[g] {
-            [0, 0] => leaf_row(sheet, network, usize::from(genes.leaf[g]), row),
+            [0, 0] => fill_leaf_row(sheet, &arcs, genes.leaf[g] - 1, row),
             [a, b] => {
                 let child = |c: u8| &below[(usize::from(c) - 1 - g) * n..][..n];
-                inner_row(sheet, network, child(a), child(b), row);
+                fill_inner_row(sheet, &arcs, child(a), child(b), row);
             }
         }
     }
     scratch[..n].iter().copied().min().unwrap_or(NO_HISTORY)
 }
 
-fn leaf_row(sheet: &Sheet, network: &Network, leaf: usize, row: &mut [u32]) {
-    for &v in network.order.iter().rev() {
-        let v = usize::from(v);
-        let rest = if v == leaf { 0 } else { NO_HISTORY };
-        row[v - 1] = rest.min(move_on(sheet, network, v, row));
+/// The nodes, the target of each arc before its source, with what leaves them.
+fn targets_first(network: &Network) -> impl Iterator<Item = (u8, Arcs)> {
+    network.order.iter().rev().map(move |&v| {
+        let arcs = match (network.children[usize::from(v)], network.recipient[usize::from(v)]) {
+            ([0, _], _) => Arcs::None,
+            ([x, 0], 0) => Arcs::Principal(x - 1),
+            ([x, 0], s) => Arcs::PrincipalAndSecondary(x - 1, s - 1),
+            ([x, y], _) => Arcs::TwoPrincipal(x - 1, y - 1),
+        };
+        (v - 1, arcs)
+    })
+}
+
+/// A leaf gene rests at the leaf of its species and moves on elsewhere.
+fn fill_leaf_row(sheet: &Sheet, arcs: &[(u8, Arcs)], leaf: u8, row: &mut [u32]) {
+    for &(v, arcs) in arcs {
+        let at = |w: u8| row[usize::from(w)];
+        let least = match arcs {
+            Arcs::None if v == leaf => 0,
+            Arcs::None => NO_HISTORY,
+            Arcs::Principal(x) => at(x),
+            Arcs::TwoPrincipal(x, y) => plus(at(x).min(at(y)), sheet.loss),
+            Arcs::PrincipalAndSecondary(x, s) => at(x).min(plus(at(s), sheet.transfer + sheet.loss)),
+        };
+        row[usize::from(v)] = least;
     }
 }
 
-fn inner_row(sheet: &Sheet, network: &Network, a: &[u32], b: &[u32], row: &mut [u32]) {
-    for &v in network.order.iter().rev() {
-        let v = usize::from(v);
-        let ending = end(sheet, network, v, a, b);
-        row[v - 1] = ending.min(move_on(sheet, network, v, row));
+/// An inner gene, whose children have the rows `a` and `b`, has its event at the node or moves on.
+fn fill_inner_row(sheet: &Sheet, arcs: &[(u8, Arcs)], a: &[u32], b: &[u32], row: &mut [u32]) {
+    for &(v, arcs) in arcs {
+        let at = |w: u8| row[usize::from(w)];
+        let a = |w: u8| a[usize::from(w)];
+        let b = |w: u8| b[usize::from(w)];
+        let duplication = plus(plus(a(v), b(v)), sheet.duplication);
+        let least = match arcs {
+            Arcs::None => duplication,
+            Arcs::Principal(x) => duplication.min(at(x)),
+            Arcs::TwoPrincipal(x, y) => {
+                let speciation = plus(a(x), b(y)).min(plus(a(y), b(x)));
+                duplication.min(speciation).min(plus(at(x).min(at(y)), sheet.loss))
+            }
+            Arcs::PrincipalAndSecondary(x, s) => {
+                let a_leaves = plus(a(s), b(v).min(b(x)));
+                let b_leaves = plus(b(s), a(v).min(a(x)));
+                let transfer = plus(a_leaves.min(b_leaves), sheet.transfer);
+                let by_transfer = plus(at(s), sheet.transfer + sheet.loss);
+                duplication.min(transfer).min(by_transfer).min(at(x))
+            }
+        };
+        row[usize::from(v)] = least;
     }
 }
 
-/// The least cost of a gene whose children's rows are `a` and `b`, when its event happens at v.
-fn end(sheet: &Sheet, network: &Network, v: usize, a: &[u32], b: &[u32]) -> u32 {
-    let at = |row: &[u32], w: u8| row[usize::from(w) - 1];
-    let here = v as u8;
-    let duplicate = at(a, here).saturating_add(at(b, here)).saturating_add(sheet.duplication);
-    let parting = match (network.children[v], network.recipient[v]) {
-        ([x, y], 0) if y != 0 => {
-            let straight = at(a, x).saturating_add(at(b, y));
-            let crossed = at(a, y).saturating_add(at(b, x));
-            straight.min(crossed)
-        }
-        ([x, _], s) if s != 0 => {
-            let a_leaves = at(a, s).saturating_add(at(b, here).min(at(b, x)));
-            let b_leaves = at(b, s).saturating_add(at(a, here).min(at(a, x)));
-            a_leaves.min(b_leaves).saturating_add(sheet.transfer)
-        }
-        _ => NO_HISTORY,
-    };
-    duplicate.min(parting)
-}
-
-/// The least cost of a gene that goes on from v; its row is complete below v.
-fn move_on(sheet: &Sheet, network: &Network, v: usize, row: &[u32]) -> u32 {
-    let at = |w: u8| row[usize::from(w) - 1];
-    match (network.children[v], network.recipient[v]) {
-        ([0, _], _) => NO_HISTORY,
-        ([x, 0], 0) => at(x),
-        ([x, 0], s) => at(x).min(at(s).saturating_add(sheet.transfer + sheet.loss)),
-        ([x, y], _) => at(x).min(at(y)).saturating_add(sheet.loss),
-    }
+fn plus(a: u32, b: u32) -> u32 {
+    a.saturating_add(b)
 }
