@@ -132,16 +132,16 @@ pub fn run(seed: u64) -> String {
 
 impl Line {
     fn text(&self) -> String {
-        let [middle, least, most] = self.ratio;
+        let (name, rust) = (&self.name, self.rust);
+        if !proved::LINKED {
+            return format!("{name:<52} {rust:>12.2} {:>12} {:>11.0}\n", "-", 1e6 / rust);
+        }
+        let (proved, [middle, least, most]) = (self.proved, self.ratio);
+        let spread = format!("{least:.2} - {most:.2}");
         format!(
-            "{:<52} {:>12.2} {:>12.2} {:>11.0} {:>11.0}  {:>6.2} {:>15}\n",
-            self.name,
-            self.rust,
-            self.proved,
-            1e6 / self.rust,
-            1e6 / self.proved,
-            middle,
-            format!("{least:.2} - {most:.2}")
+            "{name:<52} {rust:>12.2} {proved:>12.2} {:>11.0} {:>11.0}  {middle:>6.2} {spread:>15}\n",
+            1e6 / rust,
+            1e6 / proved,
         )
     }
 }
@@ -263,7 +263,7 @@ fn table_alone(random: &mut Random, timer: &mut Timer) -> String {
         }
         let time = median(&mut times);
         let name = format!("(c) table alone, {name}: n = m = 127");
-        writeln!(text, "{name:<52} {time:>12.2} {:>12} {:>11.0} {:>11}", "-", 1e6 / time, "-").expect("text");
+        writeln!(text, "{name:<52} {time:>12.2} {:>12} {:>11.0}", "-", 1e6 / time).expect("text");
     }
     text
 }
@@ -284,7 +284,7 @@ pub fn page(table: &str, machine: &str, date: &str, tally: &Tally) -> String {
     let linked = if proved::LINKED {
         "The proved entry is the static library that `rt staticlib` writes."
     } else {
-        "**The proved entry was not linked: the Rust implementation stands in for it, so the columns \"proved\" and \"ratio\" measure it against itself.**"
+        "**The proved entry was not linked in this run: the Rust implementation stood in for it in the comparison, and only its times are given.**"
     };
     format!(
         "# Performance
@@ -296,7 +296,7 @@ The proved entry beside an independent implementation in ordinary Rust (`compare
 - Times are microseconds of processor time a sheet for the whole call, from bytes to report (medians of {ROUNDS} rounds); \"/s\" is families a second. The ratio is the proved entry's time over Rust's, as the median of the rounds' ratios with the least and the greatest; below 1 the proved entry is faster.
 - \"Most trials\" is the largest search that refusal 10 leaves room for at n = 127: 31 reticulations in components of 8, 8, 8 and 7, so 896 trials.
 - The static library exports the whole call only. For the whole-network table the call on a network without reticulations stands for it; the last two lines time the table alone on the Rust side.
-- Before the times were taken, both gave the same answer, result, scratch and untouched rest on {} sheets ({} scored, {} of these also by enumerating {} settings); mismatches: {}.
+- Before the times were taken, {} sheets were compared in answer, result, scratch and untouched rest ({} scored, {} of these also by enumerating {} settings in all); mismatches: {}.
 
 ```text
 {table}```
