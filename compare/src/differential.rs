@@ -115,7 +115,7 @@ pub fn run(bounds: Bounds) -> Tally {
     }
     run.kind("damaged at random", share(40_000), &mut random(), Enumerate::No, damage::aimless);
     run.kind("random bytes", share(20_000), &mut random(), Enumerate::No, damage::noise);
-    run.overlong(&mut random());
+    run.extremes(&mut random());
     run.buffer_lengths(&mut random());
     run.tally
 }
@@ -147,8 +147,9 @@ impl Run {
         );
     }
 
-    /// Valid sheets with bytes after them, up to and past the longest sheet.
-    fn overlong(&mut self, random: &mut Random) {
+    /// The sheet of the greatest cost, and valid sheets with bytes after them, up to and past the longest.
+    fn extremes(&mut self, random: &mut Random) {
+        self.compare(&families::costliest().text(), RESULT_BYTES, SCRATCH_WORDS, Enumerate::Yes);
         for growth in [Growth::Deep, Growth::Wide] {
             let mut text = families::largest(random, 8, growth).text();
             for _ in 0..3 {

@@ -395,6 +395,28 @@ pub fn largest(random: &mut Random, transfers: usize, growth: Growth) -> Family 
     Family { costs: costs(random), nodes, genes }
 }
 
+/// The family of the greatest cost: on a caterpillar of species, genes of the deepest leaf join one by one
+/// a pair of the deepest and the shallowest. All but one of its inner genes are duplications at the root.
+pub fn costliest() -> Family {
+    let species = 64;
+    let mut nodes = vec![Node::default()];
+    for depth in 1..species {
+        // The two lineages of the last inner node: a leaf, and the rest of the caterpillar.
+        let principal = nodes.len() as u32;
+        nodes.push(Node { principal, stamp: 999, species: depth, ..Node::default() });
+        let last = depth + 1 == species;
+        let (stamp, name) = if last { (999, species) } else { (depth, 0) };
+        nodes.push(Node { principal, stamp, species: name, ..Node::default() });
+    }
+    let mut genes = vec![Gene::default()];
+    for left in (0..species - 1).rev() {
+        let parent = genes.len() as u32;
+        genes.push(Gene { parent, species });
+        genes.push(Gene { parent, species: if left == 0 { 1 } else { 0 } });
+    }
+    Family { costs: [99; 3], nodes, genes }
+}
+
 /// A family as users have them: so many species and highways, and a gene tree that follows the network.
 pub fn typical(random: &mut Random, species: usize, highways: usize, genes: usize) -> Family {
     let plan = NetworkPlan {

@@ -214,3 +214,10 @@ fn a_component_of_eight_is_scored_and_one_of_nine_refused() {
     assert_eq!((first[4], taken.len()), (256, 8));
     assert_eq!(answer(&text([2, 3, 1], &ladder(9), &genes)), Err(11));
 }
+
+/// No sheet costs more; six columns hold it.
+#[test]
+fn the_greatest_cost() {
+    let sheet = String::from_utf8(compare::families::costliest().text()).expect("sheets are text");
+    assert_eq!(summary(&sheet), (vec![398_970, 62, 0, 3_968, 0], 398_970, vec![]));
+}
