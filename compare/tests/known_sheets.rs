@@ -1,8 +1,8 @@
 //! The known sheets of the rules, and the limits around them.
 
-use compare::enumeration;
 use compare::reference::sheet::Sheet;
-use compare::reference::{RESULT_BYTES, SCRATCH_WORDS, score};
+use compare::reference::{self, RESULT_BYTES, SCRATCH_WORDS};
+use compare::{enumeration, proved};
 
 const K_NETWORK: [[u32; 5]; 7] = [
     [1, 0, 0, 0, 0],
@@ -39,12 +39,21 @@ fn text(costs: [u32; 3], network: &[[u32; 5]], genes: &[[u32; 5]]) -> String {
         .collect()
 }
 
+/// The reference's answer, which must be the proved entry's too, in number, result and scratch.
+fn score(text: &[u8], result: &mut [u8], scratch: &mut [u32]) -> u32 {
+    let (mut other_result, mut other_scratch) = (result.to_vec(), scratch.to_vec());
+    let number = reference::score(text, result, scratch).number();
+    assert_eq!(proved::score(text, &mut other_result, &mut other_scratch), number);
+    assert!(other_result == result && other_scratch == scratch);
+    number
+}
+
 /// The report, or the refusal; untouched bytes and words are checked on the way, and every report is
 /// checked against the enumeration of all settings.
 fn answer(sheet: &str) -> Result<String, u32> {
     let mut result = vec![0xA5; RESULT_BYTES];
     let mut scratch = vec![0x5A5A_5A5A; SCRATCH_WORDS];
-    let number = score(sheet.as_bytes(), &mut result, &mut scratch).number();
+    let number = score(sheet.as_bytes(), &mut result, &mut scratch);
     if number < 93 {
         assert!(result.iter().all(|&byte| byte == 0xA5) && scratch.iter().all(|&word| word == 0x5A5A_5A5A));
         return Err(number);
@@ -129,7 +138,7 @@ fn case_12_buffers_at_their_limits() {
     let sheet = k([2, 3, 1]);
     let call = |text: &str, bytes: usize, words: usize| {
         let (mut result, mut scratch) = (vec![7; bytes], vec![7; words]);
-        score(text.as_bytes(), &mut result, &mut scratch).number()
+        score(text.as_bytes(), &mut result, &mut scratch)
     };
     assert_eq!(call(&sheet, RESULT_BYTES, SCRATCH_WORDS), K_REPORT.len() as u32);
     assert_eq!(call(&sheet, RESULT_BYTES - 1, SCRATCH_WORDS), 2);
