@@ -1,0 +1,14 @@
+//! The proved scorer of LGT sheets beside an implementation written apart.
+//!
+//! `reference` scores a sheet in ordinary Rust, written from the rules alone. `enumeration` scores small
+//! sheets once more by the definitions, setting by setting. `families` and `damage` make sheets, `proved`
+//! calls the static library, `differential` compares all of them and `benchmark` times two of them.
+
+pub mod benchmark;
+pub mod damage;
+pub mod differential;
+pub mod enumeration;
+pub mod families;
+pub mod proved;
+pub mod random;
+pub mod reference;
