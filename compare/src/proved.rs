@@ -10,7 +10,7 @@ unsafe extern "C" {
         result_length: usize,
         scratch: *mut u32,
         scratch_length: usize,
-    ) -> u32;
+    ) -> usize;
 }
 
 /// Whether the static library is linked. Without it the reference implementation stands in.
@@ -21,7 +21,7 @@ pub const LINKED: bool = cfg!(proved);
 pub fn score(sheet: &[u8], result: &mut [u8], scratch: &mut [u32]) -> u32 {
     // SAFETY: each pointer comes from a slice together with its length, and the slices do not overlap.
     // The entry takes any sheet and any lengths and touches nothing else, which is proved of it.
-    unsafe {
+    let number = unsafe {
         lgt_score(
             sheet.as_ptr(),
             sheet.len(),
@@ -30,7 +30,8 @@ pub fn score(sheet: &[u8], result: &mut [u8], scratch: &mut [u32]) -> u32 {
             scratch.as_mut_ptr(),
             scratch.len(),
         )
-    }
+    };
+    u32::try_from(number).expect("a number of the paper")
 }
 
 #[cfg(not(proved))]
