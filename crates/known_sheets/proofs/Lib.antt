@@ -1,0 +1,4 @@
+pub mod Opened
+pub mod Frozen
+pub mod Rows
+pub mod Known
