@@ -2,9 +2,10 @@
 //!
 //! `reference` scores a sheet in ordinary Rust, written from the rules alone. `enumeration` scores small
 //! sheets once more by the definitions, setting by setting. `families` and `damage` make sheets, `proved`
-//! calls the static library, `differential` compares all of them and `benchmark` times two of them.
+//! calls the static library, `corpus` writes the input of the test program `score_test`, `differential` compares all of them and `benchmark` times two of them.
 
 pub mod benchmark;
+pub mod corpus;
 pub mod damage;
 pub mod differential;
 pub mod enumeration;

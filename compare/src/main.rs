@@ -3,22 +3,25 @@
 use std::process::ExitCode;
 
 use compare::differential::{self, Bounds};
-use compare::{benchmark, proved};
+use compare::{benchmark, corpus, proved};
 
 const USAGE: &str =
     "compare [--seed N] [--percent N] [--seconds N] [--no-benchmark] [--write FILE --date DATE]
+compare --corpus FOLDER
 
   --seed N        the seed of all sheets (1)
   --percent N     how many sheets, in percent of the usual number (100)
   --seconds N     the most time for the differential run (240)
   --no-benchmark  the differential run alone
-  --write FILE    write the benchmarks as a page to FILE, with DATE";
+  --write FILE    write the benchmarks as a page to FILE, with DATE
+  --corpus FOLDER write the input and the expected output of the test program score_test, and nothing else";
 
 struct Options {
     bounds: Bounds,
     benchmark: bool,
     write: Option<String>,
     date: String,
+    corpus: Option<String>,
 }
 
 fn options() -> Option<Options> {
@@ -27,6 +30,7 @@ fn options() -> Option<Options> {
         benchmark: true,
         write: None,
         date: "undated".to_string(),
+        corpus: None,
     };
     let mut words = std::env::args().skip(1);
     while let Some(word) = words.next() {
@@ -37,6 +41,7 @@ fn options() -> Option<Options> {
             "--seconds" => options.bounds.seconds = words.next()?.parse().ok()?,
             "--write" => options.write = Some(words.next()?),
             "--date" => options.date = words.next()?,
+            "--corpus" => options.corpus = Some(words.next()?),
             _ => return None,
         }
     }
@@ -49,6 +54,16 @@ fn main() -> ExitCode {
         return ExitCode::FAILURE;
     };
     let Bounds { seed, percent, seconds } = options.bounds;
+    if let Some(folder) = options.corpus {
+        let (input, output) = corpus::files(seed);
+        let written = std::fs::write(format!("{folder}/stdin"), input)
+            .and_then(|()| std::fs::write(format!("{folder}/stdout"), output));
+        if let Err(error) = written {
+            eprintln!("{folder}: {error}");
+            return ExitCode::FAILURE;
+        }
+        return ExitCode::SUCCESS;
+    }
     println!(
         "proved entry: {}",
         if proved::LINKED { "static library" } else { "NOT LINKED, the Rust implementation stands in" }
