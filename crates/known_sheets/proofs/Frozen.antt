@@ -25,7 +25,7 @@ use Rattle.report.specs.declared.Totals.{Totals}
 use Rattle.score.specs.Families.{Tables, networkIn, geneTreeIn, costsIn, familyIn, reported}
 use Rattle.score.specs.Outcome.{componentCount, totalsIn, reportIn}
 
--- the table of a switching of n reticulations, and the switching of a table
+-- what a switching says at the nodes 1..n as a table, 1 for the secondary arc, and the switching that a table says
 unfoldable pub frozen : ℕ → Switching → List ℕ
 frozen n σ = filled n (replicate 128 0) (λ r. tally (σ r))
 

@@ -1,5 +1,5 @@
--- The known sheets (01, "Known sheets"): cases 1 to 12, in two rows each where 01 names two inputs. The bytes of K's report are 01's; the other lines
--- and the words of the scratch follow from 01's rules by hand.
+-- The known sheets (01, "Known sheets"): cases 1 to 12, in two rows where 01 names two inputs. K's report and the numbers quoted are 01's; the lines and
+-- words that 01 does not print follow from its rules.
 -- Assumes nothing.
 use mathlib.Core.List.{List, [], _∷_, _++_}
 use Prim.Native.Nat.{ℕ}
