@@ -4,14 +4,14 @@
 use mathlib.Core.Path.{_≡_, refl, sym, ap, _∙_}
 use mathlib.Core.Bool.{Bool, true, false}
 use mathlib.Core.List.{List}
-use Prim.Native.Nat.{ℕ, suc, _≤_, _<_}
+use Prim.Native.Nat.{ℕ, _≤_, _<_}
 use native.Mathlib.Omega.{arith}
-use lib.ListN.{length, replicate}
+use lib.ListN.{replicate}
 use Rattle.finite.specs.Tests.{same, tally}
 use Rattle.finite.specs.Tables.{at, filled, within}
 use Rattle.finite.proofs.Tables.{filled-in, within-zero, within-out}
 use Rattle.finite.proofs.Cases.{byEq, byLess}
-use Rattle.topology.specs.Networks.{Network, Reticulation, isReticulation, reticulations}
+use Rattle.topology.specs.Networks.{Reticulation, isReticulation, reticulations}
 use Rattle.topology.specs.Switchings.{Switching, onSecondary, parent}
 use Rattle.topology.specs.Components.{component, members}
 use Rattle.topology.specs.Tables.{networkOf}
