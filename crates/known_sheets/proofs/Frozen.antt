@@ -4,14 +4,14 @@
 use mathlib.Core.Path.{_≡_, refl, sym, ap, _∙_}
 use mathlib.Core.Bool.{Bool, true, false}
 use mathlib.Core.List.{List}
-use Prim.Native.Nat.{ℕ, suc, _≤_, _<_}
+use Prim.Native.Nat.{ℕ, _≤_, _<_}
 use native.Mathlib.Omega.{arith}
-use lib.ListN.{length, replicate}
+use lib.ListN.{replicate}
 use Rattle.finite.specs.Tests.{same, tally}
 use Rattle.finite.specs.Tables.{at, filled, within}
 use Rattle.finite.proofs.Tables.{filled-in, within-zero, within-out}
 use Rattle.finite.proofs.Cases.{byEq, byLess}
-use Rattle.topology.specs.Networks.{Network, Reticulation, isReticulation, reticulations}
+use Rattle.topology.specs.Networks.{Reticulation, isReticulation, reticulations}
 use Rattle.topology.specs.Switchings.{Switching, onSecondary, parent}
 use Rattle.topology.specs.Components.{component, members}
 use Rattle.topology.specs.Tables.{networkOf}
@@ -25,7 +25,7 @@ use Rattle.report.specs.declared.Totals.{Totals}
 use Rattle.score.specs.Families.{Tables, networkIn, geneTreeIn, costsIn, familyIn, reported}
 use Rattle.score.specs.Outcome.{componentCount, totalsIn, reportIn}
 
--- the table of a switching of n reticulations, and the switching of a table
+-- what a switching says at the nodes 1..n as a table, 1 for the secondary arc, and the switching that a table says
 unfoldable pub frozen : ℕ → Switching → List ℕ
 frozen n σ = filled n (replicate 128 0) (λ r. tally (σ r))
 

@@ -1,12 +1,12 @@
 -- A test of a row that computes, and what it means: where it passes, every call that keeps the promise of `score` does what the row says.
 -- Assumes nothing.
-use mathlib.Core.Path.{_≡_, refl, sym, ap, ap₂, subst, _∙_}
+use mathlib.Core.Path.{_≡_, sym, ap, ap₂, subst, _∙_}
 use mathlib.Core.Bool.{Bool, true, false, _&&_, not}
 use mathlib.Core.List.{List, [], _∷_, _++_, List·Memᴰ, List·Memᴰ·head, List·Memᴰ·tail}
 use Prim.Native.Nat.{ℕ, _*_}
 use lib.ListN.{length, drop}
 use Rattle.finite.specs.Tests.{same, under}
-use Rattle.finite.proofs.Tests.{is-same, same-is, under-is, and-l, and-r, not-true, cond-yes, cond-no}
+use Rattle.finite.proofs.Tests.{same-is, under-is, and-l, and-r, not-true, cond-yes, cond-no}
 use Rattle.columns.specs.Fields.{sameBytes}
 use Rattle.columns.specs.Lines.{written}
 use Rattle.columns.proofs.Bytes.{same-eq}
@@ -15,8 +15,8 @@ use Rattle.score.specs.declared.Answer.{Answer}
 use Rattle.score.specs.declared.Answer.the-variants.{Report, Refused}
 use Rattle.score.specs.Families.{Tables, tablesOf, familyIn}
 use Rattle.score.specs.Refusals.{refusal}
-use Rattle.score.specs.Outcome.{reportIn, answerBy, resultBy, scratchBy, Promise}
-use Rattle.known_sheets.specs.Rows.{Row, AsExpected, Known}
+use Rattle.score.specs.Outcome.{reportIn, answerBy, resultBy, scratchBy}
+use Rattle.known_sheets.specs.Rows.{Row, Known}
 use Rattle.known_sheets.proofs.Frozen.{frozenReport, report-frozen}
 
 -- what a sheet with the tables X, of which refusal k is the first that applies, answers and leaves, by the row

@@ -8,8 +8,6 @@ use Prim.Native.Char.{code}
 use lib.ListN.{length, drop}
 use Rattle.columns.specs.Lines.{written}
 use Rattle.score.specs.declared.Answer.{Answer}
-use Rattle.score.specs.Families.{tablesOf}
-use Rattle.score.specs.Refusals.{refusal}
 use Rattle.score.specs.Outcome.{Promise}
 
 -- the bytes of a text

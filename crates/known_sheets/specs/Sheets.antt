@@ -1,5 +1,5 @@
--- The known sheets (01, "Known sheets"): cases 1 to 12, in two rows each where 01 names two inputs. The bytes of K's report are 01's; the other lines
--- and the words of the scratch follow from 01's rules by hand.
+-- The known sheets (01, "Known sheets"): cases 1 to 12, in two rows where 01 names two inputs, and the two sheets that 01 names after them. K's report
+-- and the numbers quoted are 01's; the lines and words that 01 does not print follow from its rules.
 -- Assumes nothing.
 use mathlib.Core.List.{List, [], _∷_, _++_}
 use Prim.Native.Nat.{ℕ}
@@ -296,6 +296,111 @@ case12-refused = record {
   words = [];
 }
 
+-- "A component of 8 reticulations is scored ..": it is searched in 256 trials
+abbrev pub eight : Row
+eight = record {
+  sheet = ln "    33     1     2     3     1"
+      ++ ln "     1     0     0     0     0"
+      ++ ln "     2     1     0     2     0"
+      ++ ln "     3     1     2     2     0"
+      ++ ln "     4     3     0     3     0"
+      ++ ln "     5     4     0    99     1"
+      ++ ln "     6     2     0     4     0"
+      ++ ln "     7     4     6     4     0"
+      ++ ln "     8     7     0     5     0"
+      ++ ln "     9     8     0    99     2"
+      ++ ln "    10     6     0     6     0"
+      ++ ln "    11     8    10     6     0"
+      ++ ln "    12    11     0     7     0"
+      ++ ln "    13    12     0    99     3"
+      ++ ln "    14    10     0     8     0"
+      ++ ln "    15    12    14     8     0"
+      ++ ln "    16    15     0     9     0"
+      ++ ln "    17    16     0    99     4"
+      ++ ln "    18    14     0    10     0"
+      ++ ln "    19    16    18    10     0"
+      ++ ln "    20    19     0    11     0"
+      ++ ln "    21    20     0    99     5"
+      ++ ln "    22    18     0    12     0"
+      ++ ln "    23    20    22    12     0"
+      ++ ln "    24    23     0    13     0"
+      ++ ln "    25    24     0    99     6"
+      ++ ln "    26    22     0    14     0"
+      ++ ln "    27    24    26    14     0"
+      ++ ln "    28    27     0    15     0"
+      ++ ln "    29    28     0    99     7"
+      ++ ln "    30    26     0    16     0"
+      ++ ln "    31    28    30    16     0"
+      ++ ln "    32    31     0    99     8"
+      ++ ln "    33    30     0    99     9"
+      ++ ln "     1     0     1     0     0";
+  result = 5952;
+  scratch = 16129;
+  answer = Report 341;
+  report = ln "     0     0     0     0   256"
+      ++ ln "     0    33     1     8     1"
+      ++ ln "     3     1     0     1     8"
+      ++ ln "     7     4     0     1     8"
+      ++ ln "    11     8     0     1     8"
+      ++ ln "    15    12     0     1     8"
+      ++ ln "    19    16     0     1     8"
+      ++ ln "    23    20     0     1     8"
+      ++ ln "    27    24     0     1     8"
+      ++ ln "    31    28     0     1     8"
+      ++ ln "     1     5     0     0     0";
+  words = 2 ∷ 5 ∷ 1 ∷ 1 ∷ 0
+      ∷ ∞ ∷ ∞ ∷ ∞ ∷ ∞ ∷ ∞ ∷ ∞ ∷ ∞ ∷ ∞ ∷ ∞ ∷ ∞ ∷ ∞ ∷ ∞ ∷ ∞ ∷ ∞ ∷ ∞ ∷ ∞ ∷ ∞ ∷ ∞ ∷ ∞ ∷ ∞ ∷ ∞ ∷ ∞ ∷ ∞ ∷ ∞ ∷ ∞ ∷ ∞ ∷ ∞ ∷ ∞ ∷ [];
+}
+
+-- ".. one of 9 gives 11"
+abbrev pub nine : Row
+nine = record {
+  sheet = ln "    37     1     2     3     1"
+      ++ ln "     1     0     0     0     0"
+      ++ ln "     2     1     0     2     0"
+      ++ ln "     3     1     2     2     0"
+      ++ ln "     4     3     0     3     0"
+      ++ ln "     5     4     0    99     1"
+      ++ ln "     6     2     0     4     0"
+      ++ ln "     7     4     6     4     0"
+      ++ ln "     8     7     0     5     0"
+      ++ ln "     9     8     0    99     2"
+      ++ ln "    10     6     0     6     0"
+      ++ ln "    11     8    10     6     0"
+      ++ ln "    12    11     0     7     0"
+      ++ ln "    13    12     0    99     3"
+      ++ ln "    14    10     0     8     0"
+      ++ ln "    15    12    14     8     0"
+      ++ ln "    16    15     0     9     0"
+      ++ ln "    17    16     0    99     4"
+      ++ ln "    18    14     0    10     0"
+      ++ ln "    19    16    18    10     0"
+      ++ ln "    20    19     0    11     0"
+      ++ ln "    21    20     0    99     5"
+      ++ ln "    22    18     0    12     0"
+      ++ ln "    23    20    22    12     0"
+      ++ ln "    24    23     0    13     0"
+      ++ ln "    25    24     0    99     6"
+      ++ ln "    26    22     0    14     0"
+      ++ ln "    27    24    26    14     0"
+      ++ ln "    28    27     0    15     0"
+      ++ ln "    29    28     0    99     7"
+      ++ ln "    30    26     0    16     0"
+      ++ ln "    31    28    30    16     0"
+      ++ ln "    32    31     0    17     0"
+      ++ ln "    33    32     0    99     8"
+      ++ ln "    34    30     0    18     0"
+      ++ ln "    35    32    34    18     0"
+      ++ ln "    36    35     0    99     9"
+      ++ ln "    37    34     0    99    10"
+      ++ ln "     1     0     1     0     0";
+  result = 5952;
+  scratch = 16129;
+  answer = Refused 11;
+  report = [];
+  words = [];
+}
+
 -- the table
 abbrev pub knownSheets : List Row
-knownSheets = case1 ∷ case2 ∷ case3 ∷ case4 ∷ case5 ∷ case6 ∷ case7 ∷ case8 ∷ case9 ∷ case10 ∷ case11 ∷ case11-refused ∷ case12 ∷ case12-refused ∷ []
+knownSheets = case1 ∷ case2 ∷ case3 ∷ case4 ∷ case5 ∷ case6 ∷ case7 ∷ case8 ∷ case9 ∷ case10 ∷ case11 ∷ case11-refused ∷ case12 ∷ case12-refused ∷ eight ∷ nine ∷ []
