@@ -76,6 +76,16 @@ module _ (F : Family) where
   unfolding words
   length-words = length-listed (wordAt F) 0 (genes * nodes)
 
+  -- the table's word at the place of gene g and node v
+  pub word-at : (g v : ℕ) → 1 ≤ g → g ≤ genes → 1 ≤ v → v ≤ nodes → getD (words F) (cell nodes g v) 0 ≡ word (least F g v)
+  unfolding words wordAt
+  word-at g v lg ug lv uv =
+      let i : ℕ = cell nodes g v in
+      let u = cell-in nodes genes g v lg ug lv uv in
+      let p = place-of i u in
+      let q = cell-apart nodes (suc (i / nodes)) (suc (i % nodes)) g v (omega arith) lg (omega arith) (p .2) lv uv (p .0) in
+      getD-listed (wordAt F) 0 (genes * nodes) i u ∙ ap (wordAt F) (omega arith) ∙ ap (λ (x : ℕ). word (least F x (suc (i % nodes)))) (q .0) ∙ ap (λ (x : ℕ). word (least F g x)) (q .1)
+
   table-inside : (t : List ℕ) → Rows F t 0 → (i : ℕ) → i < genes * nodes → getD t i 0 ≡ getD (words F) i 0
   unfolding words wordAt row
   table-inside t r i u =

@@ -16,10 +16,12 @@ use Rattle.sheet.proofs.Limits.{limits-is}
 use Rattle.network.specs.Refusals.{refusal6, refusal7, refusal8, refusal9, refusal10, refusal11}
 use Rattle.network.specs.Verdict.{networkVerdict}
 use Rattle.gene_tree.specs.Refusals.{treeFits, seatsFit, geneVerdict}
-use Rattle.optimum.proofs.Search.{search-state}
+use Rattle.reconciliation.specs.Mapping.{lcaCost}
+use Rattle.optimum.proofs.Search.{search-state, search-stops, search-agree}
 use Rattle.acceptance.specs.Admitted.{Admitted}
-use Rattle.acceptance.proofs.Mapped.{optimal}
+use Rattle.acceptance.proofs.Mapped.{sound, optimal}
 use Rattle.acceptance.proofs.Least.{overall-least}
+use Rattle.acceptance.proofs.Promise.{each-word}
 use Rattle.score.specs.declared.Answer.{Answer}
 use Rattle.score.specs.declared.Answer.the-variants.{Report, Refused}
 use Rattle.score.specs.Families.{Tables, tablesOf, networkIn, geneTreeIn, costsIn, familyIn, reported}
@@ -100,6 +102,10 @@ module _ (s : List ℕ) (b w : ℕ) (e : refusal s b w ≡ 0) where
   is-reported = record {
     optimal = optimal (X .nodes) (X .genes) (X .duplication) (X .transfer) (X .loss) (X .principal) (X .secondary) (X .stamp) (X .species) (X .parent) (X .kind) admitted;
     steps = λ t l. search-state (networkIn X) (geneTreeIn X) (costsIn X) t (omega arith);
+    stops = search-stops (networkIn X) (geneTreeIn X) (costsIn X);
+    last = λ r d. sym (search-agree (networkIn X) (sound (X .nodes) (X .genes) (X .duplication) (X .transfer) (X .loss) (X .principal) (X .secondary) (X .stamp) (X .species) (X .parent) (X .kind)
+        admitted) (lcaCost (networkIn X) (geneTreeIn X) (costsIn X)) r d);
+    each = each-word (X .nodes) (X .genes) (X .duplication) (X .transfer) (X .loss) (X .principal) (X .secondary) (X .stamp) (X .species) (X .parent) (X .kind) admitted;
     whole = overall-least (X .nodes) (X .genes) (X .duplication) (X .transfer) (X .loss) (X .principal) (X .secondary) (X .stamp) (X .species) (X .parent) (X .kind) admitted;
   }
 

@@ -4,15 +4,15 @@ use mathlib.Core.Path.{_≡_}
 use mathlib.Core.Logic.{_≢_, _↔_}
 use mathlib.Core.Bool.{Bool, true, cond, not}
 use mathlib.Core.List.{List, [], _∷_, _++_}
-use Prim.Native.Nat.{ℕ, _+_, _*_, _<_}
-use lib.ListN.{length, drop}
+use Prim.Native.Nat.{ℕ, _+_, _*_, _≤_, _<_}
+use lib.ListN.{length, getD, drop}
 use Rattle.finite.specs.Tests.{same, tally}
 use Rattle.finite.specs.Range.{count}
-use Rattle.topology.specs.Networks.{Network, isReticulation, reticulations}
+use Rattle.topology.specs.Networks.{Network, Reticulation, isReticulation, reticulations}
 use Rattle.topology.specs.Switchings.{Switching, onSecondary, parent}
 use Rattle.topology.specs.Components.{component, members}
 use Rattle.reconciliation.specs.Mapping.{place, event, transfers, losses, duplicationCount, transferCount, lossCount, lcaCost}
-use Rattle.optimum.specs.Optimum.{trials, Optimal}
+use Rattle.optimum.specs.Optimum.{assembled, trials, Optimal}
 use Rattle.optimum.specs.Machine.{searchAfter, AsScored}
 use Rattle.histories.specs.Histories.{Family, Least, LeastOverall, overall}
 use Rattle.histories.specs.Words.{word, costOf, cell, words}
@@ -79,7 +79,13 @@ pub record Reported (X : Tables) : Type 0 where
   pub optimal : Optimal (networkIn X) (geneTreeIn X) (costsIn X) (reported X)
   -- the search: after t steps the machine's state is what 01 says, for every t up to the trials reported
   pub steps : (t : ℕ) → t < 1 + trials (networkIn X) → AsScored (networkIn X) (geneTreeIn X) (costsIn X) t (searchAfter (networkIn X) (geneTreeIn X) (costsIn X) t)
-  -- demand 2: the whole-network cost is the least over all histories
+  -- "With no setting left the search stops": no further step changes its state
+  pub stops : (k : ℕ) → searchAfter (networkIn X) (geneTreeIn X) (costsIn X) (trials (networkIn X) + k) ≡ searchAfter (networkIn X) (geneTreeIn X) (costsIn X) (trials (networkIn X))
+  -- "the bests of its last state are the setting reported"
+  pub last : (r : ℕ) → Reticulation (networkIn X) r → reported X r ≡ assembled (networkIn X) (searchAfter (networkIn X) (geneTreeIn X) (costsIn X) (trials (networkIn X)) .bests) r
+  -- demand 2: "scratch word (g − 1) × n + (v − 1) holds the least cost for gene g starting at node v, or 4,294,967,295 if no history exists"
+  pub each : (g v : ℕ) → 1 ≤ g → g ≤ X .genes → 1 ≤ v → v ≤ X .nodes → Least (familyIn X) g v (costOf (getD (words (familyIn X)) (cell (X .nodes) g v) 0))
+  -- and the whole-network cost is the least over all histories
   pub whole : LeastOverall (familyIn X) (word (overall (familyIn X)))
 
 -- the promise of the call
