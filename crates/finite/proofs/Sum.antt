@@ -6,8 +6,11 @@ use Prim.Native.Nat.{ℕ, zero, suc, _+_, _*_, _≤_, _<_}
 use native.Mathlib.Nat.{mul-zero, mul-add}
 use native.Mathlib.Numerals.{add-one}
 use native.Mathlib.Omega.{arith}
+use mathlib.Core.Bool.{cond}
+use Rattle.finite.specs.Tests.{same}
 use Rattle.finite.specs.Range.{sum}
 use Rattle.finite.proofs.Cases.{byEq}
+use Rattle.finite.proofs.Tests.{is-same, not-same}
 
 -- no index, and one more index
 pub sum-zero-range : (f : ℕ → ℕ) → sum 0 f ≡ 0
@@ -76,6 +79,16 @@ sum-point zero f g a e l u h k = absurd (omega arith)
 sum-point (suc m) f g a e l u h k = byEq a (suc m)
     (λ q. let k₂ : g (suc m) ≡ f (suc m) + e = rw q at k in omega (arith, sum-same m g f (λ v _ w. h v (omega arith)), k₂))
     (λ q. omega (arith, sum-point m f g a e l (omega arith) h k, h (suc m) (λ x. q (sym x))))
+
+-- two sums that differ at two numbers
+pub sum-points : (n : ℕ) (f g : ℕ → ℕ) (a b d e : ℕ) → 1 ≤ a → a ≤ n → 1 ≤ b → b ≤ n → a ≢ b → ((v : ℕ) → v ≢ a → v ≢ b → g v ≡ f v) → g a ≡ f a + d → g b ≡ f b + e
+    → sum n g ≡ sum n f + d + e
+sum-points n f g a b d e la ha lb hb ab other ea eb =
+    sum-point n h g b e lb hb (λ v q. byEq v a (λ z. rw (is-same z)) (λ z. rw (not-same z) (other v z q))) (rw (not-same {m = b} {n = a} (λ z. ab (sym z))) eb)
+    ∙ ap (λ (k : ℕ). k + e) (sum-point n f h a d la ha (λ v q. rw (not-same q)) (rw (is-same {m = a} refl) ea))
+  where
+    h : ℕ → ℕ
+    h v = cond (same v a) (g v) (f v)
 
 -- one index, and two, are no more than the sum
 pub sum-at : (n a : ℕ) (f : ℕ → ℕ) → 1 ≤ a → a ≤ n → f a ≤ sum n f

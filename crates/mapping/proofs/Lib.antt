@@ -5,3 +5,5 @@ pub mod Mapped
 pub mod Adding
 pub mod Held
 pub mod Trials
+pub mod Meeting
+pub mod Charges

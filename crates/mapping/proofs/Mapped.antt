@@ -159,7 +159,7 @@ module _ (n : ℕ) (up on height : List ℕ) (m : ℕ) (left right leaf mother :
     unfolding genesOf
     from = parent-gene G (F .rooted) g d
 
-    way-below : Below n up on height (place M G taken (at mother g)) (place M G taken g)
+    pub way-below : Below n up on height (place M G taken (at mother g)) (place M G taken g)
     unfolding genesOf
     way-below = record {
       upper = seat (at mother g) (from .0) (from .1);

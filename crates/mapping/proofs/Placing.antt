@@ -65,7 +65,7 @@ module _ (n : ℕ) (up on height : List ℕ) (m : ℕ) (left right leaf mother :
   gene-in g l u = place-node N (T .sound) G (F .rooted) (F .seated) taken g l u .high
 
   -- the step is the definition's
-  step : (g : ℕ) (table : List ℕ) → PlacedFrom N m left right leaf mother g table → placeAt n up on height left right leaf table g ≡ place N G taken g
+  pub step : (g : ℕ) (table : List ℕ) → PlacedFrom N m left right leaf mother g table → placeAt n up on height left right leaf table g ≡ place N G taken g
   unfolding placeAt genesOf
   step g table P = byEq (at left g) 0
       (λ e. rw (is-same e) (sym (place-leaf N G (F .rooted) taken g e)))
@@ -111,3 +111,9 @@ module _ (n : ℕ) (up on height : List ℕ) (m : ℕ) (left right leaf mother :
       (λ k a b. P .placed k (omega arith) b) (λ k a. P .rest k a ∙ sym (zeros-at k)) (P .none ∙ sym (zeros-at 0))
 
 pub ruleset place-loop = (place-ready, place-turn, place-start, place-done)
+
+-- the place that a step finds is a node
+pub placed-low : (n : ℕ) (up on height : List ℕ) (m : ℕ) (left right leaf mother : List ℕ) (T : Switched n up on height) (F : Family (switchedOf n up on height) m left right leaf mother)
+    (g node : ℕ) (table : List ℕ) → 0 < g → g ≤ m → PlacedFrom (switchedOf n up on height) m left right leaf mother g table → node ≡ placeAt n up on height left right leaf table g → node ≤ n
+placed-low n up on height m left right leaf mother T F g node table o h P e =
+    rw (e, step n up on height m left right leaf mother T F g table P) (gene-in n up on height m left right leaf mother T F g o h)

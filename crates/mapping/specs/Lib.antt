@@ -2,3 +2,4 @@ pub mod Switched
 pub mod Settings
 pub mod Genes
 pub mod Score
+pub mod Charges

@@ -10,7 +10,9 @@ ghost use Rattle.topology.specs.Switchings.{lca};
 ghost use Rattle.mapping.specs.Switched.{switchedOf, taken, Switched, Below, leavingTable, forkTable, forksTable};
 ghost use Rattle.mapping.specs.Settings.{bitOf, markFrom, markTable, Numbered, upFrom, upTable};
 ghost use Rattle.mapping.specs.Genes.{genesOf, Family, Kin, Ready, Coming, placeAt, childHere, eventFrom, eventAt, leavesFrom, wayOf, betweenOf, lossesFrom, transfersAt, lossesAt, placeTable, eventTable, transferTable, lossTable};
-ghost use Rattle.mapping.specs.Score.{Cheap, Room, chargedBy, scoreOf};
+ghost use Rattle.mapping.specs.Score.{Cheap, Room, chargedBy, costsOf, scoreOf};
+ghost use Rattle.mapping.specs.Charges.{passTable, weightTable, Weights, Meeting, Paired, ChargedHere, pairBy, Skipped};
+ghost use Rattle.reconciliation.specs.Mapping.{lcaCost};
 
 fn wide(x: u32) -> usize
     ensures { λ r. ⌜ r ≡ x ⌝ }
@@ -600,4 +602,179 @@ pub fn evaluate(
         &event,
         u,
     )
+}
+
+// The loss that each node charges a gene that passes it: nodes with two on arcs charge one.
+fn passing(n: usize, forks: &[u32; 128], loss: u32) -> [u32; 128]
+    requires { ⌜ (n ≤ 127) × (loss ≤ 99) × ((v : ℕ) → at (now forks) v ≤ 1) ⌝ }
+    ensures { λ r. ⌜ r ≡ passTable n loss (now (forks .entry)) ⌝ }
+{
+    let mut out = [0u32; 128];
+    let mut v: usize = 0;
+    while v < n {
+        let w = v + 1;
+        out[w] = loss * forks[w];
+        v = w;
+    }
+    out
+}
+
+// The same with the transfer by which the node is reached.
+fn weights(n: usize, on: &[u32; 128], pass: &[u32; 128], transfer: u32) -> [u32; 128]
+    requires { ⌜ (n ≤ 127) × (transfer ≤ 99) × ((v : ℕ) → at (now on) v ≤ 1) × ((v : ℕ) → at (now pass) v ≤ 99) ⌝ }
+    ensures { λ r. ⌜ r ≡ weightTable n transfer (now (on .entry)) (now (pass .entry)) ⌝ }
+{
+    let mut out = [0u32; 128];
+    let mut v: usize = 0;
+    while v < n {
+        let w = v + 1;
+        out[w] = transfer * on[w] + pass[w];
+        v = w;
+    }
+    out
+}
+
+// Where two climbers meet, and the weights of the nodes that they climbed from, the meeting node left out.
+struct Met {
+    node: usize,
+    cost: u32,
+}
+
+// The climb of `common`, with the weights on the way: one climb gives a gene's place and what its children pay on their ways.
+fn meet(
+    n: usize,
+    up: &[u32; 128],
+    on: &[u32; 128],
+    height: &[u32; 128],
+    weight: &[u32; 128],
+    x: usize,
+    y: usize,
+) -> Met
+    requires { ⌜ Switched n (now up) (now on) (now height) ⌝ }
+    requires { ⌜ Weights (now weight) × Below n (now up) (now on) (now height) (lca (switchedOf n (now up) (now on) (now height)) taken x y) x × Below n (now up) (now on) (now height) (lca (switchedOf n (now up) (now on) (now height)) taken x y) y ⌝ }
+    ensures { λ r. ⌜ Meeting n (now (up .entry)) (now (on .entry)) (now (height .entry)) (now (weight .entry)) x y (r .node) (r .cost) ⌝ }
+{
+    let mut a = x;
+    let mut b = y;
+    let mut r: u32 = 0;
+    while a != b {
+        if height[b] <= height[a] {
+            r += weight[a];
+            a = wide(up[a]);
+        } else {
+            r += weight[b];
+            b = wide(up[b]);
+        }
+    }
+    Met { node: a, cost: r }
+}
+
+// What a gene at b is charged whose children at x and y climb to it by the weight r. A node that a child sits at is not passed, so its loss, px or
+// py, is taken off again; below a duplication the child that sits elsewhere is charged a loss.
+fn pair_charge(
+    duplication: u32,
+    loss: u32,
+    b: usize,
+    x: usize,
+    y: usize,
+    px: u32,
+    py: u32,
+    r: u32,
+) -> u32
+    requires { ⌜ (duplication ≤ 99) × (loss ≤ 99) × (px ≤ loss) × (py ≤ loss) × (r ≤ 60000) × Skipped b x y px py r ⌝ }
+    ensures { λ c. ⌜ c ≡ pairBy duplication loss b x y px py r ⌝ }
+{
+    if x == b {
+        if y == b {
+            return duplication;
+        }
+        return duplication + r + loss - py;
+    }
+    if y == b {
+        return duplication + r + loss - px;
+    }
+    r - px - py
+}
+
+// The place of gene g, and what is charged at it: its duplication and its children's ways.
+fn place_and_charge(
+    n: usize,
+    up: &[u32; 128],
+    on: &[u32; 128],
+    height: &[u32; 128],
+    left: &[u32; 128],
+    right: &[u32; 128],
+    leaf: &[u32; 128],
+    pass: &[u32; 128],
+    weight: &[u32; 128],
+    u: UnitCosts,
+    place: &[u32; 128],
+    g: usize,
+) -> Met
+    requires { ⌜ Switched n (now up) (now on) (now height) ⌝ }
+    requires { ⌜ Cheap u × (now pass ≡ passTable n (u .loss) (forksTable n (now up))) × (now weight ≡ weightTable n (u .transfer) (now on) (now pass)) ⌝ }
+    requires { ⌜ (g ≤ 127) × Paired n (now up) (now on) (now height) (now left) (now right) (now place) g ⌝ }
+    ensures { λ r. ⌜ ChargedHere n (now (up .entry)) (now (on .entry)) (now (height .entry)) u (now (left .entry)) (now (right .entry)) (now (leaf .entry)) (now (place .entry)) g (r .node) (r .cost) ⌝ }
+{
+    if left[g] == 0 {
+        return Met {
+            node: wide(leaf[g]),
+            cost: 0,
+        };
+    }
+    let x = wide(place[wide(left[g])]);
+    let y = wide(place[wide(right[g])]);
+    let met = meet(n, up, on, height, weight, x, y);
+    let b = met.node;
+    let charge = pair_charge(u.duplication, u.loss, b, x, y, pass[x], pass[y], met.cost);
+    Met {
+        node: b,
+        cost: charge,
+    }
+}
+
+// The last-common-ancestor cost of the gene tree under the switching, without the counts that make it up: what a trial asks for.
+pub fn cost(
+    n: usize,
+    up: &[u32; 128],
+    on: &[u32; 128],
+    height: &[u32; 128],
+    m: usize,
+    left: &[u32; 128],
+    right: &[u32; 128],
+    leaf: &[u32; 128],
+    mother: &[u32; 128],
+    u: UnitCosts,
+) -> u32
+    requires { ⌜ Switched n (now up) (now on) (now height) ⌝ }
+    requires { ⌜ Family (switchedOf n (now up) (now on) (now height)) m (now left) (now right) (now leaf) (now mother) ⌝ }
+    requires { ⌜ Cheap u ⌝ }
+    ensures { λ r. ⌜ r ≡ lcaCost (switchedOf n (now (up .entry)) (now (on .entry)) (now (height .entry))) (genesOf m (now (left .entry)) (now (right .entry)) (now (leaf .entry)) (now (mother .entry))) (costsOf u) taken ⌝ }
+{
+    let fork = forks(n, up);
+    let pass = passing(n, &fork, u.loss);
+    let weight = weights(n, on, &pass, u.transfer);
+    let mut place = [0u32; 128];
+    let mut r: u32 = 0;
+    let mut g = m;
+    while 0 < g {
+        let met = place_and_charge(
+            n,
+            up,
+            on,
+            height,
+            left,
+            right,
+            leaf,
+            &pass,
+            &weight,
+            u,
+            &place,
+            g,
+        );
+        place[g] = met.node as u32;
+        r += met.cost;
+        g -= 1;
+    }
+    r
 }

@@ -20,6 +20,7 @@ use Rattle.topology.specs.Components as C
 use Rattle.topology.specs.Tables.{rankFrom, networkOf}
 use Rattle.topology.proofs.Above.{reticulation-node}
 use Rattle.topology.proofs.Components.{component-node}
+use Rattle.reconciliation.specs.Mapping.{lcaCost}
 use Rattle.reconciliation.specs.GeneTrees.{GeneTree}
 use Rattle.gene_tree.specs.Genes.{zeros, leftTable, rightTable, leafTable}
 use Rattle.gene_tree.specs.Refusals.{geneVerdict}
@@ -147,9 +148,10 @@ module _ (n : ℕ) (principal secondary stamp height top members index : List �
       pub trial-switched : Switched n up on height
       trial-switched = switched-by (settingOf N c x) up on (marks-by on e) q
 
-      pub trial-cost : (s : Score) → s ≡ scoreOf (switchedOf n up on height) (genesOf m left right leaf mother) u taken → s .cost ≡ trialCost (networkOf n principal secondary stamp) (genesOf m left right leaf mother) (costsOf u) c x
+      pub trial-cost : (r : ℕ) → r ≡ lcaCost (switchedOf n up on height) (genesOf m left right leaf mother) (costsOf u) taken
+          → r ≡ trialCost (networkOf n principal secondary stamp) (genesOf m left right leaf mother) (costsOf u) c x
       unfolding trial scoreOf
-      trial-cost s z = ap (λ (r : Score). r .cost) (score-by (settingOf N c x) up on (marks-by on e) q s z)
+      trial-cost r z = z ∙ ap (λ (s : Score). s .cost) (score-by (settingOf N c x) up on (marks-by on e) q (scoreOf (switchedOf n up on height) (genesOf m left right leaf mother) u taken) refl)
 
   -- of the switching reported
   component-in : (r : ℕ) → 1 ≤ r → r ≤ n → Node N (component N r)

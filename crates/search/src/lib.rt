@@ -78,8 +78,7 @@ fn trial(
 {
     let on = mapping::setting_marks(n, secondary, top, members, index, c, x);
     let up = mapping::parents(n, principal, secondary, &on);
-    let score = mapping::evaluate(n, &up, &on, height, m, left, right, leaf, mother, u);
-    score.cost
+    mapping::cost(n, &up, &on, height, m, left, right, leaf, mother, u)
 }
 
 // Whether setting x becomes the best of its component: it is the first, number 0, or costs less than the least so far.
