@@ -155,6 +155,12 @@ module _ (n : ℕ) (principal secondary stamp height top sizes index : List ℕ)
     pub loop-next : x ≤ t → t ≤ x → Reached (networkOf n principal secondary stamp) (genesOf m left right leaf mother) (costsOf u) (k + 1) 0 s
     loop-next a b = reached-next N G (costsOf u) k t x s R tried a b
 
+  -- a component without reticulations has no setting to score
+  pub loop-skip : (k : ℕ) (s : State) → Reached (networkOf n principal secondary stamp) (genesOf m left right leaf mother) (costsOf u) k 0 s → k < n → at sizes (k + 1) ≡ 0
+      → Reached (networkOf n principal secondary stamp) (genesOf m left right leaf mother) (costsOf u) (k + 1) 0 s
+  unfolding trialsOf
+  loop-skip k s R l e = loop-next k 0 0 s R l (rw (e, is-same {m = 0} refl)) (omega arith) (omega arith)
+
   pub loop-end : (k : ℕ) (s : State) → Reached (networkOf n principal secondary stamp) (genesOf m left right leaf mother) (costsOf u) k 0 s → k ≤ n → n ≤ k
       → stateOf (s .bests) (s .count) ≡ searchAfter (networkOf n principal secondary stamp) (genesOf m left right leaf mother) (costsOf u) (trials (networkOf n principal secondary stamp))
   unfolding networkOf

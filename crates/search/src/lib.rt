@@ -211,7 +211,7 @@ fn component(
     now
 }
 
-// All components, "by rising top".
+// All components with a reticulation, "by rising top".
 fn components(
     n: usize,
     principal: &[u32; 128],
@@ -238,24 +238,26 @@ fn components(
     };
     let mut k: usize = 0;
     while k < n {
-        now = component(
-            n,
-            principal,
-            secondary,
-            stamp,
-            height,
-            top,
-            members,
-            index,
-            m,
-            left,
-            right,
-            leaf,
-            mother,
-            u,
-            now,
-            k,
-        );
+        if members[k + 1] != 0 {
+            now = component(
+                n,
+                principal,
+                secondary,
+                stamp,
+                height,
+                top,
+                members,
+                index,
+                m,
+                left,
+                right,
+                leaf,
+                mother,
+                u,
+                now,
+                k,
+            );
+        }
         k += 1;
     }
     now

@@ -1,5 +1,8 @@
--- With the components 1 to k done the state is the one that 01 gives for so many steps; with all done it is the last.
+-- With the components 1 to k done the state is the one that 01 gives for so many steps; with all done it is the last. A component without
+-- reticulations has no settings, so passing over it is no step.
 -- Assumes nothing.
+use mathlib.Core.Logic.{⊎-elim}
+use borrow.Author.Needs.{needs}
 use Prim.Native.Nat.{_+_, _-_, _≤_}
 use native.Mathlib.Omega.{arith}
 use Rattle.topology.specs.Tables.{networkOf}
@@ -7,8 +10,7 @@ use Rattle.gene_tree.specs.Genes.{zeros}
 use Rattle.mapping.specs.Genes.{genesOf}
 use Rattle.mapping.specs.Score.{costsOf}
 use Rattle.search.specs.Steps.{Reached}
-use Rattle.search.proofs.Steps.{loop-start, loop-end}
-use borrow.Author.Needs.{needs}
+use Rattle.search.proofs.Steps.{loop-start, loop-skip, loop-end}
 use Rattle.search.proofs.components.Statement.{statement}
 use Rattle.search.proofs.components.Tie as tie
 use Rattle.search.proofs.components.Reads as reads
@@ -21,32 +23,48 @@ Inv-loop n principal secondary stamp height top members index m left right leaf 
 abbrev μ-loop : tie.MeasureT-loop
 μ-loop n principal secondary stamp height top members index m left right leaf mother u now₀ k₀ now k = n - k
 
--- src/lib.rt:241:5
 loop-holds : tie.Need-loop-holds Inv-loop μ-loop
 unfolding zeros
 loop-holds c = (omega arith, loop-start _ _ _ _ _ _ _ _ _ _ _ _ _ _ (c .pre))
 
--- src/lib.rt:242:9
+add-if1 : tie.Need-add-if1 Inv-loop μ-loop
+add-if1 c = omega (arith, c .before .before .pre .nodes, c .before .loop .inv .0)
+
+mul-if1 : tie.Need-mul-if1 Inv-loop μ-loop
+mul-if1 c = omega (arith, c .before .before .pre .nodes, c .before .loop .inv .0)
+
+element-copy-out-if1 : tie.Need-element-copy-out-if1 Inv-loop μ-loop
+element-copy-out-if1 c = omega (arith, c .before .before .pre .nodes, c .before .loop .inv .0)
+
 component-requires : tie.Need-component-requires Inv-loop μ-loop
-component-requires c κs = search needs
+component-requires c κs = let l = c .before .before .before in (l .before .pre, (omega arith, l .loop .inv .1))
 
--- src/lib.rt:260:9
 add-k : tie.Need-add-k Inv-loop μ-loop
-add-k c = search needs
+add-k c = omega (arith, c .before .before .before .before .pre .nodes)
 
--- src/lib.rt:241:5
 loop-less : tie.Need-loop-less Inv-loop μ-loop
-loop-less c = search needs
+loop-less c = omega arith
 
--- src/lib.rt:241:5
 loop-again : tie.Need-loop-again Inv-loop μ-loop
-loop-again c = search needs
+loop-again c =
+    let l = c .before .before .before in
+    (omega arith, ⊎-elim (λ w. rw (w .2) (w .1 .ensures)) (λ w. rw (w .1) (loop-skip _ _ _ _ _ _ _ _ _ _ _ _ _ _ (l .before .pre) _ _ (l .loop .inv .1) (omega arith) (w .0 .left))) (c .if1 .came))
 
--- src/lib.rt:216:1
 returns : tie.Need-returns Inv-loop μ-loop
 returns c = loop-end _ _ _ _ _ _ _ _ _ _ _ _ _ _ (c .before .before .pre) _ _ (c .before .loop .inv .1) (search needs) (search needs)
 
 pub components-spec : {M : Type 1} → statement M
 components-spec =
     tie.close
-    (tie.spec Inv-loop μ-loop loop-holds component-requires add-k loop-less loop-again returns)
+    (tie.spec
+    Inv-loop
+    μ-loop
+    loop-holds
+    add-if1
+    mul-if1
+    element-copy-out-if1
+    component-requires
+    add-k
+    loop-less
+    loop-again
+    returns)
