@@ -1,13 +1,15 @@
-//! Links the static library of the proved entry where `PROVED_ARCHIVE` names one (`compare/run` sets it).
-//! Without it the reference implementation stands in for the proved entry, and the run says so.
+//! Links the static library of the proved entry, which `PROVED_ARCHIVE` names (`compare/run` builds it and sets the name). There is no
+//! build without it: what is compared would be the Rust implementation with itself.
 
 use std::env;
 use std::path::Path;
 
 fn main() {
-    println!("cargo::rustc-check-cfg=cfg(proved)");
     println!("cargo::rerun-if-env-changed=PROVED_ARCHIVE");
     let Some(archive) = env::var_os("PROVED_ARCHIVE") else {
+        println!(
+            "cargo::error=PROVED_ARCHIVE names no static library of the proved entry: build with compare/run"
+        );
         return;
     };
     let archive = Path::new(&archive);
@@ -21,5 +23,4 @@ fn main() {
     println!("cargo::rerun-if-changed={}", archive.display());
     println!("cargo::rustc-link-search=native={}", folder.display());
     println!("cargo::rustc-link-lib=static={name}");
-    println!("cargo::rustc-cfg=proved");
 }

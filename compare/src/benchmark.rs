@@ -133,9 +133,6 @@ pub fn run(seed: u64) -> String {
 impl Line {
     fn text(&self) -> String {
         let (name, rust) = (&self.name, self.rust);
-        if !proved::LINKED {
-            return format!("{name:<52} {rust:>12.2} {:>12} {:>11.0}\n", "-", 1e6 / rust);
-        }
         let (proved, [middle, least, most]) = (self.proved, self.ratio);
         let spread = format!("{least:.2} - {most:.2}");
         format!(
@@ -208,37 +205,29 @@ fn garbage(name: &str, count: usize, make: impl FnMut() -> Vec<u8>) -> Workload 
 
 /// A network of n nodes with r reticulations, as many in a component as may be, and m genes.
 fn sized(random: &mut Random, n: usize, r: usize, m: usize) -> Family {
-    let plan = NetworkPlan {
-        speciations: (n - 1) / 2 - r,
-        transfers: r,
-        in_component: 8,
-        dense: true,
-        only_reticulations: false,
-        growth: Growth::Anywhere,
-        stamp_gap: 1,
-        shuffled: true,
-    };
-    let nodes = families::network(random, plan);
-    assert_eq!(nodes.len(), n);
-    let mut family = Family { costs: [2, 3, 1], nodes, genes: vec![] };
-    family.genes = families::gene_tree(random, m.div_ceil(2), GeneShape::Anyhow, &family.species());
+    let family = dense(random, (n - 1) / 2 - r, r, 8, m);
+    assert_eq!(family.nodes.len(), n);
     family
 }
 
 fn large_component(random: &mut Random) -> Family {
+    dense(random, 40, 23, 23, 127)
+}
+
+/// Speciations and transfers, at most so many of these in a component and as many as may be, and m genes.
+fn dense(random: &mut Random, speciations: usize, transfers: usize, in_component: usize, m: usize) -> Family {
     let plan = NetworkPlan {
-        speciations: 40,
-        transfers: 23,
-        in_component: 23,
+        speciations,
+        transfers,
+        in_component,
         dense: true,
         only_reticulations: false,
         growth: Growth::Anywhere,
         stamp_gap: 1,
         shuffled: true,
     };
-    let nodes = families::network(random, plan);
-    let mut family = Family { costs: [2, 3, 1], nodes, genes: vec![] };
-    family.genes = families::gene_tree(random, 64, GeneShape::Anyhow, &family.species());
+    let mut family = Family { costs: [2, 3, 1], nodes: families::network(random, plan), genes: vec![] };
+    family.genes = families::gene_tree(random, m.div_ceil(2), GeneShape::Anyhow, &family.species());
     family
 }
 
@@ -281,15 +270,10 @@ pub fn machine_class() -> String {
 
 /// The page of docs/.
 pub fn page(table: &str, machine: &str, date: &str, tally: &Tally) -> String {
-    let linked = if proved::LINKED {
-        "The proved entry is the static library that `rt staticlib` writes."
-    } else {
-        "**The proved entry was not linked in this run: the Rust implementation stood in for it in the comparison, and only its times are given.**"
-    };
     format!(
         "# Performance
 
-The proved entry beside an independent implementation in ordinary Rust (`compare/`), both called in the same process on the same sheets, in turns. {linked}
+The proved entry beside an independent implementation in ordinary Rust (`compare/`), both called in the same process on the same sheets, in turns. The proved entry is the static library that `rt staticlib` writes.
 
 - Machine: {machine}. Date: {date}.
 - Rerun: `compare/run` from the root of the repository; `compare/run --write` renews this page.

@@ -3,7 +3,7 @@
 use std::process::ExitCode;
 
 use compare::differential::{self, Bounds};
-use compare::{benchmark, corpus, proved};
+use compare::{benchmark, corpus};
 
 const USAGE: &str =
     "compare [--seed N] [--percent N] [--seconds N] [--no-benchmark] [--write FILE --date DATE]
@@ -64,10 +64,6 @@ fn main() -> ExitCode {
         }
         return ExitCode::SUCCESS;
     }
-    println!(
-        "proved entry: {}",
-        if proved::LINKED { "static library" } else { "NOT LINKED, the Rust implementation stands in" }
-    );
     println!("differential run, seed {seed}, {percent} percent, at most {seconds} s");
     let tally = differential::run(options.bounds);
     tally.print();

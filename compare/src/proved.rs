@@ -1,7 +1,6 @@
 //! The proved entry, called through its static library. All that depends on its name and form is here and
 //! in build.rs.
 
-#[cfg(proved)]
 unsafe extern "C" {
     fn lgt_score(
         sheet: *const u8,
@@ -13,11 +12,7 @@ unsafe extern "C" {
     ) -> usize;
 }
 
-/// Whether the static library is linked. Without it the reference implementation stands in.
-pub const LINKED: bool = cfg!(proved);
-
 /// The paper's number: bytes written for a report, 1 to 13 for a refusal.
-#[cfg(proved)]
 pub fn score(sheet: &[u8], result: &mut [u8], scratch: &mut [u32]) -> u32 {
     // SAFETY: each pointer comes from a slice together with its length, and the slices do not overlap.
     // The entry takes any sheet and any lengths and touches nothing else, which is proved of it.
@@ -32,9 +27,4 @@ pub fn score(sheet: &[u8], result: &mut [u8], scratch: &mut [u32]) -> u32 {
         )
     };
     u32::try_from(number).expect("a number of the paper")
-}
-
-#[cfg(not(proved))]
-pub fn score(sheet: &[u8], result: &mut [u8], scratch: &mut [u32]) -> u32 {
-    crate::reference::score(sheet, result, scratch).number()
 }
