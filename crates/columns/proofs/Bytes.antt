@@ -2,11 +2,10 @@
 -- Assumes nothing.
 use Prim.Native.Nat.{ℕ}
 use mathlib.Core.Path.{_≡_, refl}
-use mathlib.Core.Bool.{Bool, true, false}
+use mathlib.Core.Bool.{true}
 use mathlib.Core.List.{List, [], _∷_}
 use lib.Dec.{eqb}
 use borrow.Author.Tests.{eqb-true, eq-eqb}
-use Rattle.finite.proofs.Cases.{byBool}
 use Rattle.finite.proofs.Tests.{and-l, and-r}
 use Rattle.columns.specs.Fields.{sameBytes}
 
@@ -25,6 +24,3 @@ same-eq (x ∷ xs) (y ∷ ys) e =
 
 pub eq-same : (xs ys : List ℕ) → xs ≡ ys → sameBytes xs ys ≡ true
 eq-same xs ys e = rw e (same-refl ys)
-
-pub ne-same : (xs ys : List ℕ) → (xs ≡ ys → ⊥) → sameBytes xs ys ≡ false
-ne-same xs ys differ = byBool (sameBytes xs ys) (λ e. absurd (differ (same-eq xs ys e))) (λ e. e)

@@ -34,10 +34,10 @@ unfolding columns numeral
 length-columns n = rw (length-append, length-replicate) (omega (arith, length-numeral 6 n))
 
 -- a column where the number has no digit, and one where it has
-space : (n p y : ℕ) → n < p → 32 ≡ cond (ltb n p) 32 y
+pub space : (n p y : ℕ) → n < p → 32 ≡ cond (ltb n p) 32 y
 space n p y l = rw (lt-ltb n p l)
 
-shown : (n p x y : ℕ) → p ≤ n → x ≡ y → 48 + x ≡ cond (ltb n p) 32 (48 + y)
+pub shown : (n p x y : ℕ) → p ≤ n → x ≡ y → 48 + x ≡ cond (ltb n p) 32 (48 + y)
 shown n p x y l e = rw (le-ltb n p l, e)
 
 by-columns : {a b c d e f a₂ b₂ c₂ d₂ e₂ f₂ : ℕ} → a ≡ a₂ → b ≡ b₂ → c ≡ c₂ → d ≡ d₂ → e ≡ e₂ → f ≡ f₂
@@ -116,7 +116,7 @@ module _ (n : ℕ) where
       (λ c. byLess n 10000 (four-digits c) (λ d. byLess n 100000 (five-digits d) (λ e. six-digits e h)))))
 
 -- what holds of 0 to 5 holds of each number below 6
-below-six : (P : ℕ → Type 0) → P 0 → P 1 → P 2 → P 3 → P 4 → P 5 → (k : ℕ) → k < 6 → P k
+pub below-six : (P : ℕ → Type 0) → P 0 → P 1 → P 2 → P 3 → P 4 → P 5 → (k : ℕ) → k < 6 → P k
 below-six P a b c d e f zero h = a
 below-six P a b c d e f (suc zero) h = b
 below-six P a b c d e f (suc (suc zero)) h = c

@@ -1,12 +1,11 @@
 -- A number below 1,000,000 has exactly one spelling and reading finds it: its columns are worth the number (`read-back`), so two numbers with the
 -- same columns are the same, and `fieldAt` answers a number just where the six bytes spell it.
 -- Assumes nothing.
-use Prim.Native.Nat.{ℕ, suc, min, _+_, _-_, _*_, _/_, _%_, _≤_, _<_}
+use Prim.Native.Nat.{ℕ, min, _+_, _-_, _*_, _/_, _%_, _≤_, _<_}
 use mathlib.Core.Path.{_≡_, refl, sym, ap, _∙_}
-use mathlib.Core.Logic.{_↔_}
 use mathlib.Core.Bool.{Bool, true, false, cond}
 use mathlib.Core.List.{List}
-use lib.ListN.{length, getD, take, drop, length-take, length-drop}
+use lib.ListN.{length, getD, length-take, length-drop}
 use lib.Dec.{ltb, lit≤}
 use native.Mathlib.Nat.{div-eq-of-lt, min-le-right}
 use native.Mathlib.Numerals.{add-one}
@@ -17,18 +16,18 @@ use Rattle.columns.specs.Fields.{columns, placeValue, columnOf, digitOf,
 use Rattle.columns.specs.declared.Cursor.{Cursor}
 use Rattle.columns.specs.declared.Field.{Field}
 use Rattle.columns.specs.declared.Field.the-variants.{Number, Malformed}
-use Rattle.columns.proofs.Bytes.{same-eq, eq-same, ne-same}
-use Rattle.columns.proofs.Columns.{columns-are, length-columns, column-at, six-at, six-columns}
+use Rattle.columns.proofs.Bytes.{same-eq, eq-same}
+use Rattle.columns.proofs.Columns.{columns-are, length-columns, six-at, six-columns}
 
 -- a digit's byte counts for the digit
-digit-byte : (d : ℕ) → d < 10 → digitOf (48 + d) ≡ d
+pub digit-byte : (d : ℕ) → d < 10 → digitOf (48 + d) ≡ d
 digit-byte d h = simp (le-ltb (48 + d) 48 (omega arith), le-ltb 57 (48 + d) (omega arith)) (omega arith)
 
-mod-ten : (x : ℕ) → x % 10 < 10
+pub mod-ten : (x : ℕ) → x % 10 < 10
 mod-ten x = omega arith
 
 -- a column counts for its digit, also where it is a space
-column-digit : (n p : ℕ) → digitOf (cond (ltb n p) 32 (48 + n / p % 10)) ≡ n / p % 10
+pub column-digit : (n p : ℕ) → digitOf (cond (ltb n p) 32 (48 + n / p % 10)) ≡ n / p % 10
 column-digit n p = byBool (ltb n p)
     (λ e. let z : n / p ≡ 0 = div-eq-of-lt (ltb-true n p e) in rw (e, z))
     (λ e. rw e (digit-byte (n / p % 10) (mod-ten (n / p))))
@@ -64,7 +63,7 @@ pub one-spelling : (bs cs : List ℕ) (n : ℕ) → spells bs n ≡ true → spe
 one-spelling bs cs n eb ec = spelled-columns bs n eb ∙ sym (spelled-columns cs n ec)
 
 -- what six bytes are worth is below 1,000,000, whatever they are
-digit-small : (b : ℕ) → digitOf b ≤ 9
+pub digit-small : (b : ℕ) → digitOf b ≤ 9
 digit-small b = byBool (ltb b 48) (λ l. rw l (lit≤ tt)) (λ l. rw l (byBool (ltb 57 b) (λ g. rw g (lit≤ tt)) (λ g. rw g (omega (arith, ltb-false 57 b g)))))
 
 pub worth-bound : (bs : List ℕ) → worthOf bs 6 < 1000000
@@ -103,25 +102,11 @@ short-spells s at n h e =
 pub short : (s : List ℕ) (at : ℕ) → length s < at + 6 → Malformed ≡ fieldAt s at
 short s at h = only-field s at Malformed (λ n _ e. short-spells s at n h e)
 
--- the answer of the reader, from what its two parts told
-pub told-field : (s : List ℕ) (at n : ℕ) (b : Bool) → n ≡ worthOf (six s at) 6 → b ≡ spells (six s at) n
-    → cond b (Number n (record { at = at + 6 })) Malformed ≡ fieldAt s at
-unfolding fieldAt
-told-field s at n b en eb = rw (eb, en)
-
--- the turns of the loop that sums the columns up, and of the loop that compares them
+-- one column more
 pub worth-turn : (s : List ℕ) (at n i d : ℕ) → i < 6 → n ≡ worthOf (six s at) i → d ≡ digitOf (getD s (at + i) 0)
     → n + d * placeValue (5 - i) ≡ worthOf (six s at) (i + 1)
 worth-turn s at n i d h en ed = rw (add-one, en, ed, six-at s at i h)
 
-pub differs : (s : List ℕ) (at n i : ℕ) → n < 1000000 → i < 6 → (getD s (at + i) 0 ≡ columnOf n (5 - i) → ⊥) → false ≡ spells (six s at) n
-unfolding spells
-differs s at n i small h other =
-    sym (ne-same (six s at) (columns n) (λ e. other (sym (six-at s at i h) ∙ ap (λ (l : List ℕ). getD l i 0) e ∙ column-at n small i h)))
-
+-- six bytes that are a number's columns, each by itself, spell it
 pub agrees : (s : List ℕ) (at n : ℕ) → n < 1000000 → at + 6 ≤ length s → ((k : ℕ) → k < 6 → getD s (at + k) 0 ≡ columnOf n (5 - k)) → true ≡ spells (six s at) n
 agrees s at n small room each = sym (columns-spelled (six s at) n (six-columns s at n small room each))
-
--- what the reader takes for the number is small
-pub told-small : (bs : List ℕ) (n : ℕ) → n ≡ worthOf bs 6 → n < 1000000
-told-small bs n e = rw e (worth-bound bs)

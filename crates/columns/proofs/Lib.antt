@@ -1,5 +1,6 @@
 pub mod Bytes
 pub mod Columns
 pub mod Fields
+pub mod Scans
 pub mod Writing
 pub mod Lines

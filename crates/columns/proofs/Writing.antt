@@ -1,18 +1,20 @@
 -- Writing into the front of a part that is lent. A loop keeps "what is written so far, then the rest as it was" (`written`); a part `&mut d[at..]`
 -- that comes back written is the whole written at `at` (`lent`), and writing twice one after the other is writing both (`put-written`).
 -- Assumes nothing.
-use Prim.Native.Nat.{ℕ, zero, suc, _+_, _-_, _*_, _≤_, _<_}
+use Prim.Native.Nat.{ℕ, zero, suc, _+_, _-_, _≤_, _<_}
 use mathlib.Core.Path.{_≡_, refl, sym, ap, _∙_}
-use mathlib.Core.List.{List, [], _∷_, _++_, append-assoc, append-nil}
-use lib.ListN.{length, getD, take, drop, set, length-append, length-drop, length-take, take-append-drop, drop-of-length-le}
-use lib.Seq.{paste, paste-zero, paste-suc, take-at, drop-at, take-all, drop-append-add, drop-drop, length-take-le, drop-cons, set-at, append-snoc, take-suc}
-use native.Mathlib.Nat.{add-zero, zero-add, add-assoc}
+use mathlib.Core.List.{List, [], _++_, append-assoc, append-nil}
+use lib.ListN.{length, getD, take, drop, set, replicate, length-append, length-drop, take-append-drop, drop-of-length-le}
+use lib.Seq.{paste, paste-zero, paste-suc, take-at, drop-at, take-all, drop-drop, length-take-le, getD-drop}
+use native.Mathlib.Nat.{zero-add}
 use native.Mathlib.Numerals.{add-one}
 use native.Mathlib.Omega.{arith}
+use borrow.Author.Tests.{lt-ltb}
 use borrow.Rule.Slice.PartMut.{putMid}
 use Rattle.columns.specs.Fields.{columns, columnOf}
-use Rattle.columns.specs.Lines.{fieldsOf, lineOf, written, put, fieldCount, lineLength}
-use Rattle.columns.proofs.Columns.{column-at, length-columns}
+use Rattle.columns.specs.Scans.{frontCount}
+use Rattle.columns.specs.Lines.{written, put}
+use Rattle.columns.proofs.Columns.{columns-are, column-at, length-columns}
 
 -- nothing is written
 pub written-nil : (d : List ℕ) → d ≡ written d []
@@ -59,14 +61,44 @@ lent d e at bs h ee =
     let none : drop (length d - at) (drop at d) ≡ [] = drop-of-length-le (drop at d) l in
     rw (ee, all, none) (simp append-nil)
 
--- a turn of the loop that writes a field, and what its six turns leave
-pub field-turn : (d out : List ℕ) (n i r : ℕ) → 6 ≤ length d → n < 1000000 → i < 6 → out ≡ paste d 0 (columns n) i → r ≡ columnOf n (5 - i)
-    → set out i r ≡ paste d 0 (columns n) (i + 1)
-field-turn d out n i r room small h eo er =
-    rw (add-one, eo, er, ← column-at n small i h)
-    (ap (λ (j : ℕ). set (paste d 0 (columns n) i) j (getD (columns n) i 0)) (sym (zero-add i)) ∙ paste-suc d 0 (columns n) i 0 (omega arith) (simp length-columns h))
+-- a turn of a loop that writes bs at a place byte by byte, and what its turns leave
+pub paste-turn : (d out bs : List ℕ) (at j i r : ℕ) → i ≡ at + j → at + j < length d → j < length bs → out ≡ paste d at bs j → r ≡ getD bs j 0
+    → set out i r ≡ paste d at bs (suc j)
+paste-turn d out bs at j i r ei room h eo er = rw (ei, eo, er) (paste-suc d at bs j 0 room h)
 
-pub field-done : (d out : List ℕ) (n i : ℕ) → 6 ≤ i → i ≤ 6 → out ≡ paste d 0 (columns n) i → out ≡ written d (columns n)
-unfolding written
-field-done d out n i low high e = let q : i ≡ 6 = omega arith in
-    e ∙ rw (q, length-columns, take-all 6 (columns n) (simp length-columns (omega arith)))
+pub paste-done : (d out bs : List ℕ) (at j : ℕ) → j ≡ length bs → out ≡ paste d at bs j → out ≡ put d at bs
+unfolding put written
+paste-done d out bs at j e eo = rw (eo, e, take-all (length bs) bs (omega arith), ← drop-drop (length bs) at d) (append-assoc (take at d) bs (drop (length bs) (drop at d)))
+
+-- the same for the spaces of the front columns, and for the columns of a number from one on
+space-at : (i : ℕ) → i < frontCount → _≡_ {A = ℕ} (getD (replicate frontCount 32) i 0) 32
+space-at zero h = refl
+space-at (suc zero) h = refl
+space-at (suc (suc zero)) h = refl
+space-at (suc (suc (suc zero))) h = refl
+space-at (suc (suc (suc (suc i)))) h = absurd (omega arith)
+
+pub spaces-turn : (d out : List ℕ) (i : ℕ) → 6 ≤ length d → i < frontCount → out ≡ paste d 0 (replicate frontCount 32) i → set out i 32 ≡ paste d 0 (replicate frontCount 32) (i + 1)
+spaces-turn d out i room h eo = rw (add-one i) (paste-turn d out (replicate frontCount 32) 0 i i 32 (sym (zero-add i)) (omega arith) h eo (sym (space-at i h)))
+
+pub columns-none : (d bs : List ℕ) (first : ℕ) → d ≡ paste d first bs (first - first)
+columns-none d bs first = let e : first - first ≡ 0 = omega arith in rw e (paste-zero d first bs)
+
+pub columns-turn : (d out : List ℕ) (n first i r : ℕ) → 6 ≤ length d → n < 1000000 → first ≤ i → i < 6 → out ≡ paste d first (drop first (columns n)) (i - first) → r ≡ columnOf n (5 - i)
+    → set out i r ≡ paste d first (drop first (columns n)) (i + 1 - first)
+columns-turn d out n first i r room small low h eo er =
+    let k : i + 1 - first ≡ suc (i - first) = omega arith in
+    let e : first + (i - first) ≡ i = omega arith in
+    rw k (paste-turn d out (drop first (columns n)) first (i - first) i r (sym e) (omega arith) (simp (length-drop, length-columns) (omega arith)) eo
+    (er ∙ sym (column-at n small i h) ∙ sym (getD-drop first (columns n) (i - first) 0 ∙ ap (λ (j : ℕ). getD (columns n) j 0) e)))
+
+pub columns-done : (d out : List ℕ) (n first i : ℕ) → first ≤ 6 → 6 ≤ i → i ≤ 6 → out ≡ paste d first (drop first (columns n)) (i - first) → out ≡ put d first (drop first (columns n))
+columns-done d out n first i h low high eo = paste-done d out (drop first (columns n)) first (i - first) (simp (length-drop, length-columns) (omega arith)) eo
+
+-- a number below 100 has spaces in its front columns, so that it is written by those and the columns behind them
+front-spaces : (n : ℕ) → n < 100 → replicate frontCount 32 ++ drop frontCount (columns n) ≡ columns n
+front-spaces n h = rw (columns-are n (omega arith))
+    (simp (lt-ltb n 100000 (omega arith), lt-ltb n 10000 (omega arith), lt-ltb n 1000 (omega arith), lt-ltb n 100 h))
+
+pub field-parts : (d x y : List ℕ) (n : ℕ) → n < 100 → x ≡ written d (replicate frontCount 32) → y ≡ put x frontCount (drop frontCount (columns n)) → y ≡ written d (columns n)
+field-parts d x y n h ex ey = rw (ey, ex, put-written d (replicate frontCount 32) (drop frontCount (columns n)) frontCount refl, front-spaces n h)

@@ -1,3 +1,4 @@
 pub mod Fields
+pub mod Scans
 pub mod Lines
 pub mod Examples

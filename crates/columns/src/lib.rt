@@ -1,13 +1,22 @@
 // Six-column fields, and lines of them: reading by a cursor, writing into the part of the result that is lent.
 ghost use mathlib.Core.Path.{_≡_};
+ghost use mathlib.Core.Bool.{true};
+ghost use mathlib.Core.Logic.{_↔_};
 ghost use mathlib.Core.List.{_++_};
 ghost use Prim.Native.Nat.{ℕ, _+_, _*_, _≤_, _<_};
-ghost use lib.ListN.{length, take, drop, getD};
-ghost use Rattle.columns.specs.Fields.{columnOf, digitOf, columns, worthOf, spells, six, fieldAt};
+ghost use lib.ListN.{length, take, drop, getD, replicate};
+ghost use Rattle.columns.specs.Fields.{columnOf, columns, fieldAt};
+ghost use Rattle.columns.specs.Scans.{frontCount, Blank, digit, opening, fitting};
 ghost use Rattle.columns.specs.Lines.{lineOf, lineLength, lineAt, endAt, malformed, Small, written, put};
 
 // What each column is worth, the last column first. Both reading and writing go by it.
 const PLACES: [u32; 6] = [1, 10, 100, 1000, 10000, 100000];
+
+// The columns in front of the last two. Most numbers are below 100 and have spaces there, which are read and written at once.
+const FRONT: usize = 4;
+
+// Four spaces as one number.
+const SPACES: u32 = 32 * (1 + 256 + 65536 + 16777216);
 
 // How many fields a line has: the one place in the code that says so.
 pub const FIELDS: usize = 5;
@@ -38,6 +47,13 @@ pub struct Reading {
     pub end: End,
 }
 
+// A byte as a wider number.
+fn wide(b: u8) -> u32
+    ensures { λ r. ⌜ (r ≡ b) × (r < 256) ⌝ }
+{
+    b as u32
+}
+
 // The byte in the column that is worth PLACES[place].
 fn column(n: u32, place: usize) -> u8
     requires { ⌜ place < 6 ⌝ }
@@ -54,46 +70,78 @@ fn column(n: u32, place: usize) -> u8
     digit
 }
 
-// What a byte counts for in a column: nothing, unless it is a digit.
-fn digit(b: u8) -> u32
-    ensures { λ r. ⌜ (r ≡ digitOf b) × (r ≤ 9) ⌝ }
-{
-    if b < b'0' {
-        return 0;
-    }
-    if b > b'9' {
-        return 0;
-    }
-    (b - b'0') as u32
-}
-
-// What the six columns at a position are worth, each by itself.
-fn worth(s: &[u8], at: usize) -> u32
+// Whether the front columns at a position are spaces, by one comparison.
+fn blank_front(s: &[u8], at: usize) -> bool
     requires { ⌜ at + 6 ≤ length (now s) ⌝ }
-    ensures { λ r. ⌜ r ≡ worthOf (six (now (s .entry)) at) 6 ⌝ }
+    ensures { λ r. ⌜ (r ≡ true) ↔ Blank (now (s .entry)) at frontCount ⌝ }
 {
-    let mut n: u32 = 0;
-    let mut i = 0;
-    while i < 6 {
-        n += digit(s[at + i]) * PLACES[5 - i];
-        i += 1;
-    }
-    n
-}
-
-// Whether the six columns at a position spell n.
-fn spelled(s: &[u8], at: usize, n: u32) -> bool
-    requires { ⌜ (at + 6 ≤ length (now s)) × (n < 1000000) ⌝ }
-    ensures { λ r. ⌜ r ≡ spells (six (now (s .entry)) at) n ⌝ }
-{
-    let mut k = 0;
-    while k < 6 {
-        if s[at + k] != column(n, 5 - k) {
-            return false;
-        }
-        k += 1;
+    let low = wide(s[at]) + 256 * wide(s[at + 1]);
+    let high = wide(s[at + 2]) + 256 * wide(s[at + 3]);
+    if low + 65536 * high != SPACES {
+        return false;
     }
     true
+}
+
+// Whether a byte is a digit.
+fn is_digit(b: u8) -> bool
+    ensures { λ r. ⌜ r ≡ digit b ⌝ }
+{
+    if b < b'0' {
+        return false;
+    }
+    if b > b'9' {
+        return false;
+    }
+    true
+}
+
+// Whether a byte may stand where the number has not begun: a space, or its first digit.
+fn is_opening(b: u8) -> bool
+    ensures { λ r. ⌜ r ≡ opening b ⌝ }
+{
+    if b == b' ' {
+        return true;
+    }
+    if b < b'1' {
+        return false;
+    }
+    if b > b'9' {
+        return false;
+    }
+    true
+}
+
+// Whether a byte may stand in the column that is worth PLACES[place], after columns that are worth n.
+fn fits(b: u8, n: u32, place: usize) -> bool
+    ensures { λ r. ⌜ r ≡ fitting b n place ⌝ }
+{
+    if n != 0 {
+        return is_digit(b);
+    }
+    if place == 0 {
+        return is_digit(b);
+    }
+    is_opening(b)
+}
+
+// The number in the six columns at a position, from the left; those before the column `first` are known to be spaces.
+// What a space or a digit counts for is in its low four bits.
+fn scan(s: &[u8], at: usize, first: usize) -> Field
+    requires { ⌜ (at + 6 ≤ length (now s)) × (first < 6) × Blank (now s) at first ⌝ }
+    ensures { λ r. ⌜ r ≡ fieldAt (now (s .entry)) at ⌝ }
+{
+    let mut n: u32 = 0;
+    let mut i = first;
+    while i < 6 {
+        let b = s[at + i];
+        if !fits(b, n, 5 - i) {
+            return Field::Malformed;
+        }
+        n += wide(b % 16) * PLACES[5 - i];
+        i += 1;
+    }
+    Field::Number(n, Cursor { at: at + 6 })
 }
 
 impl Cursor {
@@ -108,12 +156,10 @@ impl Cursor {
         if s.len() - 6 < at {
             return Field::Malformed;
         }
-        let n = worth(s, at);
-        if spelled(s, at, n) {
-            Field::Number(n, Cursor { at: at + 6 })
-        } else {
-            Field::Malformed
+        if blank_front(s, at) {
+            return scan(s, at, FRONT);
         }
+        scan(s, at, 0)
     }
 }
 
@@ -162,15 +208,40 @@ pub fn read_line(s: &[u8], start: Cursor) -> Reading
     line_end(s, c, line)
 }
 
+// Writes spaces into the front columns of what is lent.
+fn write_spaces(out: &mut [u8])
+    requires { ⌜ 6 ≤ length (now out) ⌝ }
+    ensures { λ _. ⌜ now (out .exit) ≡ written (now (out .entry)) (replicate frontCount 32) ⌝ }
+{
+    let mut i = 0;
+    while i < FRONT {
+        out[i] = b' ';
+        i += 1;
+    }
+}
+
+// Writes n into six columns of what is lent, from the column `first` on.
+fn write_columns(out: &mut [u8], n: u32, first: usize)
+    requires { ⌜ (6 ≤ length (now out)) × (n < 1000000) × (first < 6) ⌝ }
+    ensures { λ _. ⌜ now (out .exit) ≡ put (now (out .entry)) first (drop first (columns n)) ⌝ }
+{
+    let mut i = first;
+    while i < 6 {
+        out[i] = column(n, 5 - i);
+        i += 1;
+    }
+}
+
 // Writes n into the first six columns of what is lent.
 pub fn write_field(out: &mut [u8], n: u32)
     requires { ⌜ (6 ≤ length (now out)) × (n < 1000000) ⌝ }
     ensures { λ _. ⌜ now (out .exit) ≡ written (now (out .entry)) (columns n) ⌝ }
 {
-    let mut i = 0;
-    while i < 6 {
-        out[i] = column(n, 5 - i);
-        i += 1;
+    if n < PLACES[6 - FRONT] {
+        write_spaces(out);
+        write_columns(out, n, FRONT);
+    } else {
+        write_columns(out, n, 0);
     }
 }
 

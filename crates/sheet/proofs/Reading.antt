@@ -20,7 +20,7 @@ use Rattle.columns.specs.declared.End.the-variants.{After, Malformed}
 use Rattle.columns.specs.declared.Reading.{Reading}
 use Rattle.columns.proofs.Lines.{malformed-zero, small-read}
 use Rattle.sheet.specs.declared.Headed.the-variants.{Header as accepted, Refused}
-use Rattle.sheet.specs.Sheets.{zeros, found, lineNo, isLine, cell, nodes, genes, duplicationCost, transferCost, lossCost, limits, refuses3, refuses4, headerOf, whole, nodeLine, geneLine, refuses5, cellsOf, nodeNumbered, geneFields, geneNumbered, columnOf, nodeTable, geneTable}
+use Rattle.sheet.specs.Sheets.{zeros, found, lineNo, isLine, cell, nodes, genes, duplicationCost, transferCost, lossCost, limits, refuses3, refuses4, headerOf, whole, nodeLine, geneLine, refuses5, cellsOf, nodeNumbered, geneFieldsFit, geneNumbered, columnOf, nodeTable, geneTable}
 use Rattle.sheet.proofs.Storing.{cells-at}
 
 -- the header, from what reading line 0 told
@@ -48,20 +48,20 @@ unfolding whole
 not-whole s n m l e q = sym (not-same (λ h. q (h ∙ sym e)))
 
 -- a gene line's three fields
-pub gene-fields : (a b c g : ℕ) (r : Bool) → r ≡ same a g → not r ≡ false → b ≡ 0 → c ≡ 0 → true ≡ geneFields a b c g
-unfolding geneFields
+pub gene-fields : (a b c g : ℕ) (r : Bool) → r ≡ same a g → not r ≡ false → b ≡ 0 → c ≡ 0 → true ≡ geneFieldsFit a b c g
+unfolding geneFieldsFit
 gene-fields a b c g r e t eb ec = rw (told-not-yes r (same a g) e t, is-same eb, is-same ec)
 
-pub gene-number : (a b c g : ℕ) (r : Bool) → r ≡ same a g → not r ≡ true → false ≡ geneFields a b c g
-unfolding geneFields
+pub gene-number : (a b c g : ℕ) (r : Bool) → r ≡ same a g → not r ≡ true → false ≡ geneFieldsFit a b c g
+unfolding geneFieldsFit
 gene-number a b c g r e t = rw (told-not-no r (same a g) e t)
 
-pub gene-fourth : (a b c g : ℕ) → (b ≡ 0 → ⊥) → false ≡ geneFields a b c g
-unfolding geneFields
+pub gene-fourth : (a b c g : ℕ) → (b ≡ 0 → ⊥) → false ≡ geneFieldsFit a b c g
+unfolding geneFieldsFit
 gene-fourth a b c g d = rw (not-same d, and-no-r (same a g) false refl)
 
-pub gene-fifth : (a b c g : ℕ) → (c ≡ 0 → ⊥) → false ≡ geneFields a b c g
-unfolding geneFields
+pub gene-fifth : (a b c g : ℕ) → (c ≡ 0 → ⊥) → false ≡ geneFieldsFit a b c g
+unfolding geneFieldsFit
 gene-fifth a b c g d = rw (not-same d, and-no-r (same a g && same b 0) false refl)
 
 -- the tests of the loops over the lines
@@ -70,7 +70,7 @@ unfolding nodeNumbered
 node-told cells w r e = e
 
 pub gene-told : (cells : List ℕ) (n h : ℕ) (r : Bool)
-    → r ≡ geneFields (at cells (fieldCount * (n + h))) (at cells (fieldCount * (n + h) + 3)) (at cells (fieldCount * (n + h) + 4)) h → r ≡ geneNumbered cells n h
+    → r ≡ geneFieldsFit (at cells (fieldCount * (n + h))) (at cells (fieldCount * (n + h) + 3)) (at cells (fieldCount * (n + h) + 4)) h → r ≡ geneNumbered cells n h
 unfolding geneNumbered
 gene-told cells n h r e = e
 
@@ -95,7 +95,7 @@ node-numbered s k v few l u =
     rw e (sym (numbered s v v (omega arith)))
 
 pub gene-numbered : (s : List ℕ) (k n g : ℕ) → k ≤ 255 → 1 ≤ g → n + g < k → geneNumbered (cellsOf s k) n g ≡ geneLine s n g
-unfolding geneNumbered geneFields geneLine
+unfolding geneNumbered geneFieldsFit geneLine
 gene-numbered s k n g few l u =
     let e : at (cellsOf s k) (fieldCount * (n + g)) ≡ cell s (n + g) 0 = ap (at (cellsOf s k)) (omega arith) ∙ cells-at s k (n + g) 0 few u (omega arith) in
     rw (e, cells-at s k (n + g) 3 few u (omega arith), cells-at s k (n + g) 4 few u (omega arith), numbered s (n + g) g (omega arith))

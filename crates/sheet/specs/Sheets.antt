@@ -143,11 +143,11 @@ cellsOf s (suc k) = stored (cellsOf s k) (fieldCount * k) (lineNo s k .line) fie
 unfoldable pub nodeNumbered : List ℕ → ℕ → Bool
 nodeNumbered cells v = same (at cells (fieldCount * v)) v
 
-unfoldable pub geneFields : ℕ → ℕ → ℕ → ℕ → Bool
-geneFields number fourth fifth g = same number g && same fourth 0 && same fifth 0
+unfoldable pub geneFieldsFit : ℕ → ℕ → ℕ → ℕ → Bool
+geneFieldsFit number fourth fifth g = same number g && same fourth 0 && same fifth 0
 
 unfoldable pub geneNumbered : List ℕ → ℕ → ℕ → Bool
-geneNumbered cells n g = geneFields (at cells (fieldCount * (n + g))) (at cells (fieldCount * (n + g) + 3)) (at cells (fieldCount * (n + g) + 4)) g
+geneNumbered cells n g = geneFieldsFit (at cells (fieldCount * (n + g))) (at cells (fieldCount * (n + g) + 3)) (at cells (fieldCount * (n + g) + 4)) g
 
 -- field k of the v-th line after the line `base`
 unfoldable pub columnOf : List ℕ → ℕ → ℕ → ℕ → ℕ

@@ -10,7 +10,7 @@ ghost use Rattle.finite.specs.Tests.{same};
 ghost use Rattle.finite.specs.Range.{every};
 ghost use Rattle.finite.specs.Tables.{at, filled};
 ghost use Rattle.columns.specs.Lines.{lineAt, fieldCount};
-ghost use Rattle.sheet.specs.Sheets.{zeros, headerOf, limits, whole, stored, cellsOf, nodeNumbered, geneFields, geneNumbered, columnOf, found};
+ghost use Rattle.sheet.specs.Sheets.{zeros, headerOf, limits, whole, stored, cellsOf, nodeNumbered, geneFieldsFit, geneNumbered, columnOf, found};
 
 // The sizes and costs of a header line.
 pub struct Header {
@@ -163,7 +163,7 @@ pub fn nodes_in_order(cells: &[u32; CELLS], n: usize) -> bool
 
 // Whether the numbers that a gene line has in its first, fourth and fifth field are g, 0 and 0.
 fn is_gene_line(number: u32, fourth: u32, fifth: u32, g: usize) -> bool
-    ensures { λ r. ⌜ r ≡ geneFields number fourth fifth g ⌝ }
+    ensures { λ r. ⌜ r ≡ geneFieldsFit number fourth fifth g ⌝ }
 {
     if !bears(number, g) {
         return false;

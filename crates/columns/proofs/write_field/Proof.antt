@@ -1,66 +1,54 @@
--- Writing a field. The invariant: the first i columns are pasted over the front, and the rest is as it was.
+-- Writing a field: a number below 100 is written in two parts, the spaces of the front columns and the last two; any other column by column.
 -- Assumes nothing.
-use Prim.Native.Nat.{ℕ, _+_, _-_, _≤_, _<_}
-use mathlib.Core.Path.{_≡_, refl}
-use lib.ListN.{length, length-set}
-use lib.Seq.{paste, paste-zero}
-use Rattle.columns.specs.Fields.{columns}
-use Rattle.columns.proofs.Writing.{field-turn, field-done}
+use mathlib.Core.Path.{_∙_}
+use Rattle.columns.proofs.Writing.{field-parts, put-front}
 use borrow.Author.Needs.{needs}
 use Rattle.columns.proofs.write_field.Statement.{statement}
 use Rattle.columns.proofs.write_field.Tie as tie
 
-abbrev Inv-loop : tie.InvT-loop
-Inv-loop out₀ n i₀ out i = (i ≤ 6) × (length out ≡ length out₀) × (out ≡ paste out₀ 0 (columns n) i)
+sub-if1 : tie.Need-sub-if1
+sub-if1 c = search needs
 
-abbrev μ-loop : tie.MeasureT-loop
-μ-loop out₀ n i₀ out i = 6 - i
+mul-if1 : tie.Need-mul-if1
+mul-if1 c = search needs
 
-loop-holds : tie.Need-loop-holds Inv-loop μ-loop
-loop-holds c = (search needs, refl, paste-zero (c .before .args .out .now) 0 (columns (c .before .args .n)))
+array-read-if1 : tie.Need-array-read-if1
+array-read-if1 c = search needs
 
-sub-column : tie.Need-sub-column Inv-loop μ-loop
-sub-column c = search needs
+write-spaces-requires : tie.Need-write-spaces-requires
+write-spaces-requires c κs = search needs
 
-column-requires : tie.Need-column-requires Inv-loop μ-loop
-column-requires c κs = search needs
+write-columns-requires : tie.Need-write-columns-requires
+write-columns-requires c κs = search needs
 
-slice-write-out : tie.Need-slice-write-out Inv-loop μ-loop
-slice-write-out c = search needs
+write-columns-requires-2 : tie.Need-write-columns-requires-2
+write-columns-requires-2 c κs = search needs
 
-add-i : tie.Need-add-i Inv-loop μ-loop
-add-i c = search needs
-
-loop-less : tie.Need-loop-less Inv-loop μ-loop
-loop-less c = search needs
-
-loop-again : tie.Need-loop-again Inv-loop μ-loop
-loop-again c =
-    let l = c .before .before .loop in
-    let a = c .before .before .before .before .args in
-    (search needs, simp length-set (l .inv .1), field-turn (a .out .now) (l .out) (a .n) (l .i) _ (search needs) (search needs) (search needs) (l .inv .2) (c .column .ensures))
-
-same-length : tie.Need-same-length Inv-loop μ-loop
+same-length : tie.Need-same-length
 same-length c = search needs
 
-returns : tie.Need-returns Inv-loop μ-loop
+returns : tie.Need-returns
 returns c =
-    let l = c .before .loop in
-    let a = c .before .before .before .args in
-    field-done (a .out .now) (l .out) (a .n) (l .i) (search needs) (search needs) (l .inv .2)
+    let a = c .before .before .before .before .before .before .before .before .before .before .args in
+    field-parts (a .out .now) _ _ (a .n) (search needs) (search needs) (c .before .before .write-columns .ensures)
+
+same-length-2 : tie.Need-same-length-2
+same-length-2 c = search needs
+
+returns-2 : tie.Need-returns-2
+returns-2 c = c .before .before .write-columns2 .ensures ∙ put-front _ _
 
 pub write-field-spec : {M : Type 1} → statement M
 write-field-spec =
     tie.close
     (tie.spec
-    Inv-loop
-    μ-loop
-    loop-holds
-    sub-column
-    column-requires
-    slice-write-out
-    add-i
-    loop-less
-    loop-again
+    sub-if1
+    mul-if1
+    array-read-if1
+    write-spaces-requires
+    write-columns-requires
+    write-columns-requires-2
     same-length
-    returns)
+    returns
+    same-length-2
+    returns-2)

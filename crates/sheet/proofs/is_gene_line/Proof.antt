@@ -1,4 +1,4 @@
--- A gene line's three fields: each way out is a case of `geneFields`.
+-- A gene line's three fields: each way out is a case of `geneFieldsFit`.
 -- Assumes nothing.
 use Rattle.sheet.proofs.Reading.{gene-fields, gene-number, gene-fourth, gene-fifth}
 use borrow.Author.Needs.{needs}
