@@ -19,6 +19,10 @@ zeros = replicate 128 0
 unfoldable pub table : ℕ → (ℕ → ℕ) → List ℕ
 table n f = filled n zeros f
 
+-- where a pass counts a key: at the key where it is a node, else at 0
+unfoldable pub slotOf : (n key : ℕ) → ℕ
+slotOf n key = cond (under n key) 0 key
+
 -- the height of node v (`height` of topology) from its secondary parent and its stamp; 0 for no node
 unfoldable pub heightWith : (v secondary stamp : ℕ) → ℕ
 heightWith v secondary stamp = cond (same v 0) 0 (suc (rankFrom secondary stamp))
