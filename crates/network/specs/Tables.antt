@@ -6,7 +6,7 @@ use mathlib.Core.List.{List}
 use Prim.Native.Nat.{ℕ, suc, _≤_, _<_}
 use lib.ListN.{length, replicate}
 use Rattle.finite.specs.Tests.{same, under}
-use Rattle.finite.specs.Range.{some, count}
+use Rattle.finite.specs.Range.{some, count, children}
 use Rattle.finite.specs.Tables.{at, filled}
 use Rattle.topology.specs.Networks.{Network, Node, isReticulation}
 use Rattle.topology.specs.Switchings.{allPrincipal, above}
@@ -22,6 +22,11 @@ table n f = filled n zeros f
 -- where a pass counts a key: at the key where it is a node, else at 0
 unfoldable pub slotOf : (n key : ℕ) → ℕ
 slotOf n key = cond (under n key) 0 key
+
+-- the tables of the principal and of the secondary arcs out of each node
+pub record ArcsOut (n : ℕ) (principal secondary principals secondaries : List ℕ) : Type 0 where
+  pub first : principals ≡ table n (children n (at principal))
+  pub second : secondaries ≡ table n (children n (at secondary))
 
 -- the height of node v (`height` of topology) from its secondary parent and its stamp; 0 for no node
 unfoldable pub heightWith : (v secondary stamp : ℕ) → ℕ

@@ -4,10 +4,11 @@ use super::counts::wide;
 ghost use mathlib.Core.Path.{_≡_};
 ghost use Prim.Native.Nat.{_≤_};
 ghost use Rattle.finite.specs.Range.{some, every};
-ghost use Rattle.network.specs.Refusals.{reticulationWith, innerWith, leafWith, shapeless, shapelessAt, refusal8, leafAt, refusal9, childWith, childAt, reticulationIfChild, onlyReticulationsAt, refusal10};
-ghost use Rattle.network.specs.ShortForms.{wrongSpecies, wrongSpeciesAt};
+ghost use Rattle.network.specs.Refusals.{reticulationWith, innerWith, leafWith, shapeless, shapelessAt, refusal8, refusal9, childWith, childAt, reticulationIfChild, onlyReticulationsAt, refusal10};
+ghost use Rattle.network.specs.ShortForms.{wrongSpeciesAt};
+ghost use Rattle.network.specs.Tables.{ArcsOut};
 
-fn reticulation_with(p: u32, s: u32, a: usize, b: usize) -> bool
+fn reticulation_with(p: u32, s: u32, a: u32, b: u32) -> bool
     ensures { λ r. ⌜ r ≡ reticulationWith p s a b ⌝ }
 {
     if p == 0 {
@@ -22,7 +23,7 @@ fn reticulation_with(p: u32, s: u32, a: usize, b: usize) -> bool
     b == 0
 }
 
-fn inner_with(s: u32, a: usize, b: usize) -> bool
+fn inner_with(s: u32, a: u32, b: u32) -> bool
     requires { ⌜ (a ≤ 127) × (b ≤ 127) ⌝ }
     ensures { λ r. ⌜ r ≡ innerWith s a b ⌝ }
 {
@@ -35,7 +36,7 @@ fn inner_with(s: u32, a: usize, b: usize) -> bool
     0 < a
 }
 
-fn leaf_with(s: u32, a: usize, b: usize) -> bool
+fn leaf_with(s: u32, a: u32, b: u32) -> bool
     ensures { λ r. ⌜ r ≡ leafWith s a b ⌝ }
 {
     if s != 0 {
@@ -48,7 +49,7 @@ fn leaf_with(s: u32, a: usize, b: usize) -> bool
 }
 
 // 8: of one node, by its parents and the numbers of principal and secondary arcs out.
-fn shapeless(p: u32, s: u32, a: usize, b: usize) -> bool
+fn shapeless(p: u32, s: u32, a: u32, b: u32) -> bool
     requires { ⌜ (a ≤ 127) × (b ≤ 127) ⌝ }
     ensures { λ r. ⌜ r ≡ shapeless p s a b ⌝ }
 {
@@ -61,23 +62,36 @@ fn shapeless(p: u32, s: u32, a: usize, b: usize) -> bool
     !leaf_with(s, a, b)
 }
 
-fn shapeless_at(n: usize, principal: &[u32; 128], secondary: &[u32; 128], v: usize) -> bool
-    requires { ⌜ (n ≤ 127) × (v ≤ 127) ⌝ }
+fn shapeless_at(
+    n: usize,
+    principal: &[u32; 128],
+    secondary: &[u32; 128],
+    principals: &[u32; 128],
+    secondaries: &[u32; 128],
+    v: usize,
+) -> bool
+    requires { ⌜ (n ≤ 127) × (1 ≤ v) × (v ≤ n) ⌝ }
+    requires { ⌜ ArcsOut n (now principal) (now secondary) (now principals) (now secondaries) ⌝ }
     ensures { λ r. ⌜ r ≡ shapelessAt n (now (principal .entry)) (now (secondary .entry)) v ⌝ }
 {
-    let a = count_of(n, principal, v);
-    let b = count_of(n, secondary, v);
-    shapeless(principal[v], secondary[v], a, b)
+    shapeless(principal[v], secondary[v], principals[v], secondaries[v])
 }
 
-// 8.
-pub fn eight(n: usize, principal: &[u32; 128], secondary: &[u32; 128]) -> bool
+// 8, by the tables of the principal and of the secondary arcs out of each node.
+pub fn eight(
+    n: usize,
+    principal: &[u32; 128],
+    secondary: &[u32; 128],
+    principals: &[u32; 128],
+    secondaries: &[u32; 128],
+) -> bool
     requires { ⌜ n ≤ 127 ⌝ }
+    requires { ⌜ ArcsOut n (now principal) (now secondary) (now principals) (now secondaries) ⌝ }
     ensures { λ r. ⌜ r ≡ refusal8 n (now (principal .entry)) (now (secondary .entry)) ⌝ }
 {
     let mut v: usize = 0;
     while v < n {
-        if shapeless_at(n, principal, secondary, v + 1) {
+        if shapeless_at(n, principal, secondary, principals, secondaries, v + 1) {
             return true;
         }
         v += 1;
@@ -85,52 +99,54 @@ pub fn eight(n: usize, principal: &[u32; 128], secondary: &[u32; 128]) -> bool
     false
 }
 
-pub fn leaf_at(n: usize, principal: &[u32; 128], secondary: &[u32; 128], v: usize) -> bool
-    requires { ⌜ (n ≤ 127) × (v ≤ 127) ⌝ }
-    ensures { λ r. ⌜ r ≡ leafAt n (now (principal .entry)) (now (secondary .entry)) v ⌝ }
-{
-    let a = count_of(n, principal, v);
-    let b = count_of(n, secondary, v);
-    leaf_with(secondary[v], a, b)
-}
-
-// 9: of one node, with species k, which c nodes have.
-fn wrong_species(leaf: bool, k: usize, c: usize) -> bool
-    ensures { λ r. ⌜ r ≡ wrongSpecies leaf k c ⌝ }
-{
-    if leaf {
-        if k == 0 {
-            return true;
-        }
-        return c != 1;
-    }
-    k != 0
-}
-
+// 9: of one node. Only a leaf with a species asks how many nodes have that.
 fn wrong_species_at(
     n: usize,
     principal: &[u32; 128],
     secondary: &[u32; 128],
     species: &[u32; 128],
+    principals: &[u32; 128],
+    secondaries: &[u32; 128],
     v: usize,
 ) -> bool
-    requires { ⌜ (n ≤ 127) × (v ≤ 127) ⌝ }
+    requires { ⌜ (n ≤ 127) × (1 ≤ v) × (v ≤ n) ⌝ }
+    requires { ⌜ ArcsOut n (now principal) (now secondary) (now principals) (now secondaries) ⌝ }
     ensures { λ r. ⌜ r ≡ wrongSpeciesAt n (now (principal .entry)) (now (secondary .entry)) (now (species .entry)) v ⌝ }
 {
-    let leaf = leaf_at(n, principal, secondary, v);
     let k = wide(species[v]);
-    let c = count_of(n, species, k);
-    wrong_species(leaf, k, c)
+    if !leaf_with(secondary[v], principals[v], secondaries[v]) {
+        return k != 0;
+    }
+    if k == 0 {
+        return true;
+    }
+    count_of(n, species, k) != 1
 }
 
 // 9.
-pub fn nine(n: usize, principal: &[u32; 128], secondary: &[u32; 128], species: &[u32; 128]) -> bool
+pub fn nine(
+    n: usize,
+    principal: &[u32; 128],
+    secondary: &[u32; 128],
+    species: &[u32; 128],
+    principals: &[u32; 128],
+    secondaries: &[u32; 128],
+) -> bool
     requires { ⌜ n ≤ 127 ⌝ }
+    requires { ⌜ ArcsOut n (now principal) (now secondary) (now principals) (now secondaries) ⌝ }
     ensures { λ r. ⌜ r ≡ refusal9 n (now (principal .entry)) (now (secondary .entry)) (now (species .entry)) ⌝ }
 {
     let mut v: usize = 0;
     while v < n {
-        if wrong_species_at(n, principal, secondary, species, v + 1) {
+        if wrong_species_at(
+            n,
+            principal,
+            secondary,
+            species,
+            principals,
+            secondaries,
+            v + 1,
+        ) {
             return true;
         }
         v += 1;
