@@ -41,7 +41,7 @@ pub fn verdict(
     if nine(n, principal, secondary, species, &principals, &secondaries) {
         return 9;
     }
-    if ten(n, principal, secondary) {
+    if ten(n, principal, secondary, &principals, &secondaries) {
         return 10;
     }
     if eleven(n, principal, secondary, stamp) {

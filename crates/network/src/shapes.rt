@@ -1,12 +1,13 @@
 // Refusals 8, 9 and 10: what a node is by its parents and arcs out, its species and its children.
 use super::counts::count_of;
+use super::counts::slot;
 use super::counts::wide;
 ghost use mathlib.Core.Path.{_≡_};
 ghost use Prim.Native.Nat.{_≤_};
-ghost use Rattle.finite.specs.Range.{some, every};
-ghost use Rattle.network.specs.Refusals.{reticulationWith, innerWith, leafWith, shapeless, shapelessAt, refusal8, refusal9, childWith, childAt, reticulationIfChild, onlyReticulationsAt, refusal10};
-ghost use Rattle.network.specs.ShortForms.{wrongSpeciesAt};
-ghost use Rattle.network.specs.Tables.{ArcsOut};
+ghost use Rattle.finite.specs.Range.{children};
+ghost use Rattle.network.specs.Refusals.{reticulationWith, innerWith, leafWith, shapeless, shapelessAt, refusal8, refusal9, onlyReticulationsAt, refusal10};
+ghost use Rattle.network.specs.ShortForms.{wrongSpeciesAt, plainParent, plainParentAt, onlyReticulations};
+ghost use Rattle.network.specs.Tables.{table, ArcsOut};
 
 fn reticulation_with(p: u32, s: u32, a: u32, b: u32) -> bool
     ensures { λ r. ⌜ r ≡ reticulationWith p s a b ⌝ }
@@ -154,79 +155,87 @@ pub fn nine(
     false
 }
 
-fn child_with(p: usize, s: usize, v: usize) -> bool
-    ensures { λ r. ⌜ r ≡ childWith p s v ⌝ }
+// The principal parent of a node that is no reticulation; 0 of a reticulation.
+fn plain_parent(p: u32, s: u32) -> usize
+    ensures { λ r. ⌜ r ≡ plainParent p s ⌝ }
 {
-    if p == v {
-        return true;
+    if s == 0 {
+        return wide(p);
     }
-    s == v
+    0
 }
 
-fn child_at(principal: &[u32; 128], secondary: &[u32; 128], v: usize, w: usize) -> bool
-    requires { ⌜ w ≤ 127 ⌝ }
-    ensures { λ r. ⌜ r ≡ childAt (now (principal .entry)) (now (secondary .entry)) v w ⌝ }
-{
-    child_with(wide(principal[w]), wide(secondary[w]), v)
-}
-
-fn has_child(n: usize, principal: &[u32; 128], secondary: &[u32; 128], v: usize) -> bool
+// The arcs out of each node that lead to no reticulation: all are principal.
+fn plain_arcs(n: usize, principal: &[u32; 128], secondary: &[u32; 128]) -> [u32; 128]
     requires { ⌜ n ≤ 127 ⌝ }
-    ensures { λ r. ⌜ r ≡ some n (childAt (now (principal .entry)) (now (secondary .entry)) v) ⌝ }
+    ensures { λ r. ⌜ r ≡ table n (children n (plainParentAt (now (principal .entry)) (now (secondary .entry)))) ⌝ }
 {
-    let mut w: usize = 0;
-    while w < n {
-        if child_at(principal, secondary, v, w + 1) {
-            return true;
-        }
-        w += 1;
+    let mut out = [0u32; 128];
+    let mut v: usize = 0;
+    while v < n {
+        let w = v + 1;
+        let k = slot(n, plain_parent(principal[w], secondary[w]));
+        out[k] = out[k] + 1;
+        v = w;
     }
-    false
+    out[0] = 0;
+    out
 }
 
-fn reticulation_if_child(principal: &[u32; 128], secondary: &[u32; 128], v: usize, w: usize) -> bool
-    requires { ⌜ w ≤ 127 ⌝ }
-    ensures { λ r. ⌜ r ≡ reticulationIfChild (now (principal .entry)) (now (secondary .entry)) v w ⌝ }
+// 10: of a node with a principal and b secondary arcs out, of which k lead to no reticulation.
+fn only_reticulations(a: u32, b: u32, k: u32) -> bool
+    ensures { λ r. ⌜ r ≡ onlyReticulations a b k ⌝ }
 {
-    if !child_at(principal, secondary, v, w) {
-        return true;
-    }
-    secondary[w] != 0
-}
-
-fn all_reticulations(n: usize, principal: &[u32; 128], secondary: &[u32; 128], v: usize) -> bool
-    requires { ⌜ n ≤ 127 ⌝ }
-    ensures { λ r. ⌜ r ≡ every n (reticulationIfChild (now (principal .entry)) (now (secondary .entry)) v) ⌝ }
-{
-    let mut w: usize = 0;
-    while w < n {
-        if !reticulation_if_child(principal, secondary, v, w + 1) {
-            return false;
-        }
-        w += 1;
-    }
-    true
-}
-
-// 10: of one node.
-fn only_reticulations_at(n: usize, principal: &[u32; 128], secondary: &[u32; 128], v: usize) -> bool
-    requires { ⌜ n ≤ 127 ⌝ }
-    ensures { λ r. ⌜ r ≡ onlyReticulationsAt n (now (principal .entry)) (now (secondary .entry)) v ⌝ }
-{
-    if !has_child(n, principal, secondary, v) {
+    if k != 0 {
         return false;
     }
-    all_reticulations(n, principal, secondary, v)
+    if a != 0 {
+        return true;
+    }
+    b != 0
+}
+
+fn only_reticulations_at(
+    n: usize,
+    principal: &[u32; 128],
+    secondary: &[u32; 128],
+    principals: &[u32; 128],
+    secondaries: &[u32; 128],
+    plain: &[u32; 128],
+    v: usize,
+) -> bool
+    requires { ⌜ (n ≤ 127) × (1 ≤ v) × (v ≤ n) ⌝ }
+    requires { ⌜ ArcsOut n (now principal) (now secondary) (now principals) (now secondaries) ⌝ }
+    requires { ⌜ now plain ≡ table n (children n (plainParentAt (now principal) (now secondary))) ⌝ }
+    ensures { λ r. ⌜ r ≡ onlyReticulationsAt n (now (principal .entry)) (now (secondary .entry)) v ⌝ }
+{
+    only_reticulations(principals[v], secondaries[v], plain[v])
 }
 
 // 10.
-pub fn ten(n: usize, principal: &[u32; 128], secondary: &[u32; 128]) -> bool
+pub fn ten(
+    n: usize,
+    principal: &[u32; 128],
+    secondary: &[u32; 128],
+    principals: &[u32; 128],
+    secondaries: &[u32; 128],
+) -> bool
     requires { ⌜ n ≤ 127 ⌝ }
+    requires { ⌜ ArcsOut n (now principal) (now secondary) (now principals) (now secondaries) ⌝ }
     ensures { λ r. ⌜ r ≡ refusal10 n (now (principal .entry)) (now (secondary .entry)) ⌝ }
 {
+    let plain = plain_arcs(n, principal, secondary);
     let mut v: usize = 0;
     while v < n {
-        if only_reticulations_at(n, principal, secondary, v + 1) {
+        if only_reticulations_at(
+            n,
+            principal,
+            secondary,
+            principals,
+            secondaries,
+            &plain,
+            v + 1,
+        ) {
             return true;
         }
         v += 1;
