@@ -15,22 +15,19 @@ use Rattle.finite.proofs.Cases.{byEq, byLess}
 use Rattle.finite.proofs.Tests.{is-same, not-same, is-under, not-under}
 use Rattle.finite.proofs.Sum.{sum-more, sum-zero-range}
 use Rattle.finite.proofs.Tables.{filled-ext}
-use Rattle.network.specs.Tables.{zeros, table, slotOf}
+use Rattle.network.specs.Tables.{zeros, table, slotOf, Counted}
 use Rattle.network.proofs.Tables.{zeros-at, zeros-long}
 
-pub record Counted (n : ℕ) (key : ℕ → ℕ) (v : ℕ) (out : List ℕ) : Type 0 where
-  pub long : length out ≡ 128
-  pub small : (c : ℕ) → at out c ≤ v
-  pub inside : (c : ℕ) → 1 ≤ c → c ≤ n → at out c ≡ children v key c
-  pub outside : (c : ℕ) → n < c → at out c ≡ 0
-
-slot-in : (n k : ℕ) → k ≤ n → slotOf n k ≡ k
+pub slot-in : (n k : ℕ) → k ≤ n → slotOf n k ≡ k
 unfolding slotOf
 slot-in n k l = rw (not-under l)
 
-slot-out : (n k : ℕ) → n < k → slotOf n k ≡ 0
+pub slot-out : (n k : ℕ) → n < k → slotOf n k ≡ 0
 unfolding slotOf
 slot-out n k l = rw (is-under l)
+
+pub slot-node : (n x k : ℕ) → k ≡ slotOf n x → (k ≡ 0 → ⊥) → (1 ≤ x) × (x ≤ n) × (k ≡ x)
+slot-node n x k e d = byLess n x (λ l. absurd (d (e ∙ slot-out n x l))) (λ l. let q : k ≡ x = e ∙ slot-in n x l in (omega arith, l, q))
 
 module _ (n : ℕ) (key : ℕ → ℕ) where
   none : (c : ℕ) → children 0 key c ≡ 0

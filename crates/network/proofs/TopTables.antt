@@ -1,26 +1,28 @@
 -- The tables of components by their tops hold what topology says of the network: the tops stand in a table, and a count over the nodes reads that.
 -- Assumes nothing.
 use mathlib.Core.Path.{_≡_, refl, sym, _∙_, ap}
-use mathlib.Core.Bool.{Bool, _&&_}
+use mathlib.Core.Bool.{Bool, true, false, _&&_}
 use mathlib.Core.List.{List, [], _∷_}
 use lib.ListN.{length, getD, List·getD-eq-default}
-use Prim.Native.Nat.{ℕ, zero, suc, _≤_, _<_}
+use Prim.Native.Nat.{ℕ, zero, suc, _+_, _≤_, _<_}
 use native.Mathlib.Omega.{arith}
-use Rattle.finite.specs.Tests.{under}
-use Rattle.finite.specs.Range.{some, count}
+use Rattle.finite.specs.Tests.{same, under, tally}
+use Rattle.finite.specs.Range.{some, count, children}
 use Rattle.finite.specs.Tables.{at, filled}
 use Rattle.finite.proofs.Cases.{byEq, byLess}
-use Rattle.finite.proofs.Tests.{is-under, not-under, is-same, not-same}
+use Rattle.finite.proofs.Tests.{is-under, not-under, is-same, not-same, and-no-r}
 use Rattle.finite.proofs.Every.{some-same}
 use Rattle.finite.proofs.Count.{count-same, count-done}
+use Rattle.finite.proofs.Sum.{sum-zero-range, sum-suc}
 use Rattle.finite.proofs.Tables.{within-out}
 use Rattle.topology.specs.Networks.{Network, Sound, isReticulation}
 use Rattle.topology.specs.Switchings.{height}
 use Rattle.topology.specs.Components.{component, memberOf, members, indexOf}
 use Rattle.topology.specs.Tables.{networkOf, rankFrom}
 use Rattle.network.specs.Refusals.{crowdedAt, refusal11}
-use Rattle.network.specs.Tables.{zeros, table, memberWith, memberAt, membersFrom, earlierAt, indexFrom, crowdedFrom, heightIn}
+use Rattle.network.specs.Tables.{zeros, table, slotOf, Counted, memberWith, memberAt, membersFrom, reticulationTop, reticulationTopAt, earlierAt, indexFrom, crowdedFrom, heightIn}
 use Rattle.network.proofs.Tables.{table-at, table-long, table-zero}
+use Rattle.network.proofs.Histogram.{slot-node}
 use Rattle.network.proofs.Acceptance.{secondary-at}
 use Rattle.network.proofs.Ways.{height-is}
 
@@ -37,6 +39,47 @@ table-same n f g h = filled-same n zeros f g h
 pub index-done : (n v r c k : ℕ) (secondary tops : List ℕ) → c ≡ at tops r → v ≤ n → n ≤ v → k ≡ count v (earlierAt secondary tops c r) → k ≡ indexFrom n secondary tops r
 unfolding indexFrom
 index-done n v r c k secondary tops e a b h = rw (← e) (count-done (earlierAt secondary tops c r) n v k a b h)
+
+-- a reticulation of component c is one whose top is c
+member-key : (secondary tops : List ℕ) (c : ℕ) → 1 ≤ c → (r : ℕ) → same (reticulationTopAt secondary tops r) c ≡ memberAt secondary tops c r
+unfolding memberAt memberWith reticulationTopAt reticulationTop
+member-key secondary tops c l r = byEq (at secondary r) 0 (λ e. rw (is-same e) (not-same {m = 0} {n = c} (λ q. omega arith))) (λ d. rw (not-same d))
+
+keys-are : (secondary tops : List ℕ) (v c : ℕ) → 1 ≤ c → children v (reticulationTopAt secondary tops) c ≡ count v (memberAt secondary tops c)
+unfolding children
+keys-are secondary tops v c l = count-same v _ _ (λ r _ _. member-key secondary tops c l r)
+
+pub members-counted : (n : ℕ) (secondary tops out : List ℕ) → out ≡ table n (children n (reticulationTopAt secondary tops)) → out ≡ table n (membersFrom n secondary tops)
+unfolding membersFrom
+members-counted n secondary tops out e = e ∙ table-same n _ _ (λ c l _. keys-are secondary tops n c l)
+
+and-true : (b : Bool) → (b && true) ≡ b
+and-true true = refl
+and-true false = refl
+
+-- those of 1..n that pass and are not above v
+count-whole : (v : ℕ) (f : ℕ → Bool) → count v (λ q. f q && under q (v + 1)) ≡ count v f
+count-whole v f = count-same v _ f (λ q _ u. rw (is-under {m = q} {n = v + 1} (omega arith)) (and-true (f q)))
+
+count-below : (n v : ℕ) (f : ℕ → Bool) → v ≤ n → count n (λ q. f q && under q (v + 1)) ≡ count v f
+unfolding count
+count-below zero v f l = let e : v ≡ 0 = omega arith in rw e (sum-zero-range _ ∙ sym (sum-zero-range _))
+count-below (suc k) v f l = byEq v (suc k) (λ e. rw (← e) (count-whole v f))
+    (λ d. omega (
+      arith,
+      sum-suc k (λ q. tally (f q && under q (v + 1))),
+      ap tally (and-no-r (f (suc k)) (under (suc k) (v + 1)) (not-under (omega arith))),
+      count-below k v f (omega arith),
+    ))
+
+-- the count at the top of v + 1, a node, is the index of v + 1
+pub index-seen : (n v x c : ℕ) (secondary tops seen : List ℕ) → v < n → Counted n (reticulationTopAt secondary tops) v seen → c ≡ slotOf n x → x ≡ at tops (v + 1) → (c ≡ 0 → ⊥)
+    → at seen c ≡ indexFrom n secondary tops (v + 1)
+unfolding indexFrom earlierAt
+index-seen n v x c secondary tops seen l s e q d = let k = slot-node n x c e d in
+    let h : c ≡ at tops (v + 1) = k .2 ∙ q in
+    s .inside c (omega (arith, k .0, k .2)) (omega (arith, k .1, k .2)) ∙ keys-are secondary tops v c (omega (arith, k .0, k .2))
+    ∙ rw (← h) (sym (count-below n v (memberAt secondary tops c) (omega arith)))
 
 -- within the list the default does not matter
 default-in : (l : List ℕ) (v : ℕ) → v < length l → getD l v 1 ≡ at l v

@@ -23,6 +23,13 @@ table n f = filled n zeros f
 unfoldable pub slotOf : (n key : ℕ) → ℕ
 slotOf n key = cond (under n key) 0 key
 
+-- a pass has counted the keys of 1..v: at each node how many of them it is
+pub record Counted (n : ℕ) (key : ℕ → ℕ) (v : ℕ) (out : List ℕ) : Type 0 where
+  pub long : length out ≡ 128
+  pub small : (c : ℕ) → at out c ≤ v
+  pub inside : (c : ℕ) → 1 ≤ c → c ≤ n → at out c ≡ children v key c
+  pub outside : (c : ℕ) → n < c → at out c ≡ 0
+
 -- the tables of the principal and of the secondary arcs out of each node
 pub record ArcsOut (n : ℕ) (principal secondary principals secondaries : List ℕ) : Type 0 where
   pub first : principals ≡ table n (children n (at principal))
@@ -71,6 +78,13 @@ memberAt secondary tops c r = memberWith (at secondary r) (at tops r) c
 -- how many reticulations component c has, by the tops (`members` of topology)
 unfoldable pub membersFrom : ℕ → (secondary tops : List ℕ) → ℕ → ℕ
 membersFrom n secondary tops c = count n (memberAt secondary tops c)
+
+-- the top of a reticulation's component; 0 of another node
+unfoldable pub reticulationTop : (secondary top : ℕ) → ℕ
+reticulationTop secondary top = cond (same secondary 0) 0 top
+
+unfoldable pub reticulationTopAt : (secondary tops : List ℕ) → ℕ → ℕ
+reticulationTopAt secondary tops r = reticulationTop (at secondary r) (at tops r)
 
 -- a reticulation q of component c before r, and how many there are in r's component (`indexOf` of topology)
 unfoldable pub earlierAt : (secondary tops : List ℕ) → (c r q : ℕ) → Bool
