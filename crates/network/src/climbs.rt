@@ -61,29 +61,27 @@ fn mark_way(
     principal: &[u32; 128],
     secondary: &[u32; 128],
     stamp: &[u32; 128],
-    marks: [u32; 128],
+    marks: &mut [u32; 128],
     x: usize,
     y: usize,
-) -> [u32; 128]
-    requires { ⌜ (n ≤ 127) × (x ≤ n) × (y ≤ n) × (length marks ≡ 128) ⌝ }
+)
+    requires { ⌜ (n ≤ 127) × (x ≤ n) × (y ≤ n) × (length (now marks) ≡ 128) ⌝ }
     requires { ⌜ Sound (networkOf n (now principal) (now secondary) (now stamp)) ⌝ }
-    ensures { λ r. ⌜ MarkedWay (networkOf n (now (principal .entry)) (now (secondary .entry)) (now (stamp .entry))) marks r x y ⌝ }
+    ensures { λ _. ⌜ MarkedWay (networkOf n (now (principal .entry)) (now (secondary .entry)) (now (stamp .entry))) (now (marks .entry)) (now (marks .exit)) x y ⌝ }
 {
-    let mut m = marks;
     let mut a = x;
     let mut b = y;
     while a != b {
         let p = height_at(secondary, stamp, a);
         let q = height_at(secondary, stamp, b);
         if p < q {
-            m[b] = 1;
+            marks[b] = 1;
             b = wide(principal[b]);
         } else {
-            m[a] = 1;
+            marks[a] = 1;
             a = wide(principal[a]);
         }
     }
-    m
 }
 
 // Marks the way between node v + 1 and its secondary parent, if it has one.
@@ -92,20 +90,20 @@ fn mark_next(
     principal: &[u32; 128],
     secondary: &[u32; 128],
     stamp: &[u32; 128],
-    marks: [u32; 128],
+    marks: &mut [u32; 128],
     v: usize,
-) -> [u32; 128]
+)
     requires { ⌜ (n ≤ 127) × (v < n) ⌝ }
     requires { ⌜ Sound (networkOf n (now principal) (now secondary) (now stamp)) ⌝ }
-    requires { ⌜ MarkedWays (networkOf n (now principal) (now secondary) (now stamp)) marks v ⌝ }
-    ensures { λ r. ⌜ MarkedWays (networkOf n (now (principal .entry)) (now (secondary .entry)) (now (stamp .entry))) r (v + 1) ⌝ }
+    requires { ⌜ MarkedWays (networkOf n (now principal) (now secondary) (now stamp)) (now marks) v ⌝ }
+    ensures { λ _. ⌜ MarkedWays (networkOf n (now (principal .entry)) (now (secondary .entry)) (now (stamp .entry))) (now (marks .exit)) (v + 1) ⌝ }
 {
     let w = v + 1;
     let s = wide(secondary[w]);
     if s == 0 {
-        return marks;
+        return;
     }
-    mark_way(n, principal, secondary, stamp, marks, w, s)
+    mark_way(n, principal, secondary, stamp, marks, w, s);
 }
 
 // The nodes that are no tops are marked.
@@ -122,8 +120,7 @@ fn non_tops(
     let mut m = [0u32; 128];
     let mut v: usize = 0;
     while v < n {
-        let next = mark_next(n, principal, secondary, stamp, m, v);
-        m = next;
+        mark_next(n, principal, secondary, stamp, &mut m, v);
         v += 1;
     }
     m
