@@ -3,7 +3,8 @@
 use mathlib.Core.Path.{_≡_, refl, sym, _∙_, ap}
 use mathlib.Core.Bool.{Bool, true, false, _&&_}
 use mathlib.Core.List.{List, [], _∷_}
-use lib.ListN.{length, getD, List·getD-eq-default}
+use lib.ListN.{length, getD, set, replicate, length-set, length-replicate, getD-replicate, List·getD-eq-default}
+use lib.Seq.{getD-set-same, getD-set-other}
 use Prim.Native.Nat.{ℕ, zero, suc, _+_, _≤_, _<_}
 use native.Mathlib.Omega.{arith}
 use Rattle.finite.specs.Tests.{same, under, tally}
@@ -14,14 +15,14 @@ use Rattle.finite.proofs.Tests.{is-under, not-under, is-same, not-same, and-no-
 use Rattle.finite.proofs.Every.{some-same}
 use Rattle.finite.proofs.Count.{count-same, count-done}
 use Rattle.finite.proofs.Sum.{sum-zero-range, sum-suc}
-use Rattle.finite.proofs.Tables.{within-out}
+use Rattle.finite.proofs.Tables.{length-filled, filled-in, filled-out, filled-zero, filled-ext, within-out}
 use Rattle.topology.specs.Networks.{Network, Sound, isReticulation}
 use Rattle.topology.specs.Switchings.{height}
 use Rattle.topology.specs.Components.{component, memberOf, members, indexOf}
 use Rattle.topology.specs.Tables.{networkOf, rankFrom}
 use Rattle.network.specs.Refusals.{crowdedAt, refusal11}
-use Rattle.network.specs.Tables.{zeros, table, slotOf, Counted, memberWith, memberAt, membersFrom, reticulationTop, reticulationTopAt, earlierAt, indexFrom, crowdedFrom, heightIn}
-use Rattle.network.proofs.Tables.{table-at, table-long, table-zero}
+use Rattle.network.specs.Tables.{zeros, table, slotOf, Counted, memberWith, memberAt, membersFrom, reticulationTop, reticulationTopAt, earlierAt, indexFrom, crowdedFrom, heightIn, lastNode, flat}
+use Rattle.network.proofs.Tables.{zeros-long, zeros-at, table-at, table-long, table-zero}
 use Rattle.network.proofs.Histogram.{slot-node}
 use Rattle.network.proofs.Acceptance.{secondary-at}
 use Rattle.network.proofs.Ways.{height-is}
@@ -129,6 +130,51 @@ module _ (n : ℕ) (principal secondary stamp : List ℕ) (b : n ≤ 127) where
 
   pub crowded-told : (t m : List ℕ) (r : Bool) → t ≡ table n (component N) → m ≡ table n (membersFrom n secondary t) → r ≡ some n (crowdedFrom m) → r ≡ refusal11 N
   crowded-told t m r e q h = h ∙ rw (q, e) crowded-are
+
+-- what a table of heights holds before the nodes' own stand in it
+flat-long : length flat ≡ 128
+unfolding flat
+flat-long = length-set {A = ℕ} (replicate 128 1) 0 0 ∙ length-replicate {A = ℕ} 128 1
+
+flat-zero : at flat 0 ≡ 0
+unfolding flat
+flat-zero = getD-set-same {A = ℕ} (replicate 128 1) 0 0 0 (omega (arith, length-replicate {A = ℕ} 128 1))
+
+flat-in : (v : ℕ) → 1 ≤ v → v ≤ 127 → at flat v ≡ 1
+unfolding flat
+flat-in v l u = getD-set-other {A = ℕ} (replicate 128 1) 0 v 0 0 (λ e. omega arith) ∙ getD-replicate {A = ℕ} 128 v 1 0 (omega arith)
+
+flat-out : (v : ℕ) → 127 < v → at flat v ≡ 0
+flat-out v l = List·getD-eq-default flat 0 {n = v} (omega (arith, flat-long))
+
+last-many : (n : ℕ) → 127 < n → lastNode n ≡ 127
+unfolding lastNode
+last-many n l = rw (is-under l)
+
+last-few : (n : ℕ) → n ≤ 127 → lastNode n ≡ n
+unfolding lastNode
+last-few n l = rw (not-under l)
+
+last-le : (n : ℕ) → lastNode n ≤ 127
+last-le n = byLess 127 n (λ l. omega (arith, last-many n l)) (λ l. omega (arith, last-few n l))
+
+-- so filled at the nodes it is the table of heights
+module _ (n : ℕ) (secondary stamp : List ℕ) where
+  height-past : (v : ℕ) → n < v → heightIn n secondary stamp v ≡ 1
+  unfolding heightIn
+  height-past v l = rw (is-under l)
+
+  pub heights-filled : (last : ℕ) (out : List ℕ) → last ≡ lastNode n → out ≡ filled last flat (heightIn n secondary stamp) → out ≡ table 127 (heightIn n secondary stamp)
+  unfolding table
+  heights-filled last out e q = q ∙ filled-ext 127 zeros (filled last flat f) f (omega (arith, zeros-long)) (length-filled last flat f ∙ flat-long ∙ sym zeros-long)
+      (λ v l u. byLess last v
+      (λ g. filled-out last flat f v g ∙ flat-in v l u ∙ sym (height-past v (byLess 127 n (λ h. absurd (omega (arith, e, last-many n h))) (λ h. omega (arith, e, last-few n h)))))
+      (λ g. filled-in last flat f v l g (omega (arith, flat-long, e, last-le n))))
+      (λ v l. filled-out last flat f v (omega (arith, e, last-le n)) ∙ flat-out v l ∙ sym (zeros-at v))
+      (filled-zero last flat f ∙ flat-zero ∙ sym (zeros-at 0))
+    where
+      f : ℕ → ℕ
+      f = heightIn n secondary stamp
 
 -- the table of heights holds topology's height of every number, with 1 past its end
 module _ (n : ℕ) (principal secondary stamp : List ℕ) where

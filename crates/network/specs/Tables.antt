@@ -4,7 +4,7 @@ use mathlib.Core.Path.{_≡_}
 use mathlib.Core.Bool.{Bool, _&&_, _||_, not, cond, Bool·beq}
 use mathlib.Core.List.{List}
 use Prim.Native.Nat.{ℕ, suc, _≤_, _<_}
-use lib.ListN.{length, replicate}
+use lib.ListN.{length, replicate, set}
 use Rattle.finite.specs.Tests.{same, under}
 use Rattle.finite.specs.Range.{some, count, children}
 use Rattle.finite.specs.Tables.{at, filled}
@@ -100,6 +100,14 @@ crowdedFrom members c = under 8 (at members c)
 -- the height of any number: 1 past the nodes
 unfoldable pub heightIn : ℕ → (secondary stamp : List ℕ) → ℕ → ℕ
 heightIn n secondary stamp v = cond (under n v) 1 (heightAt secondary stamp v)
+
+-- the last of the numbers 1 to 127 that is a node
+unfoldable pub lastNode : ℕ → ℕ
+lastNode n = cond (under 127 n) 127 n
+
+-- a table of heights before the nodes' own stand in it
+unfoldable pub flat : List ℕ
+flat = set (replicate 128 1) 0 0
 
 -- stamps as six columns hold them
 pub record Dated (n : ℕ) (stamp : List ℕ) : Type 0 where

@@ -6,7 +6,7 @@ ghost use lib.ListN.{length};
 ghost use Rattle.topology.specs.Networks.{Sound};
 ghost use Rattle.topology.specs.Components.{component};
 ghost use Rattle.topology.specs.Tables.{networkOf};
-ghost use Rattle.network.specs.Tables.{table, heightWith, heightAt, heightIn, Dated, MarkedWay, MarkedWays, NonTops};
+ghost use Rattle.network.specs.Tables.{table, heightWith, heightAt, heightIn, lastNode, Dated, MarkedWay, MarkedWays, NonTops};
 
 fn height_with(v: usize, s: u32, t: u32) -> u64
     ensures { λ r. ⌜ r ≡ heightWith v s t ⌝ }
@@ -29,27 +29,37 @@ fn height_at(secondary: &[u32; 128], stamp: &[u32; 128], v: usize) -> u64
     height_with(v, secondary[v], stamp[v])
 }
 
-fn height_in(n: usize, secondary: &[u32; 128], stamp: &[u32; 128], v: usize) -> u32
-    requires { ⌜ (1 ≤ v) × (v ≤ 127) ⌝ }
+// The height of a node, whose stamp six columns hold.
+fn height_of(n: usize, secondary: &[u32; 128], stamp: &[u32; 128], v: usize) -> u32
+    requires { ⌜ (1 ≤ v) × (v ≤ 127) × (v ≤ n) ⌝ }
     requires { ⌜ Dated n (now stamp) ⌝ }
     ensures { λ r. ⌜ r ≡ heightIn n (now (secondary .entry)) (now (stamp .entry)) v ⌝ }
 {
-    if n < v {
-        return 1;
-    }
     height_at(secondary, stamp, v) as u32
 }
 
-// The heights of the numbers 1 to 127.
+// The last of the numbers 1 to 127 that is a node.
+fn last_node(n: usize) -> usize
+    ensures { λ r. ⌜ (r ≡ lastNode n) × (r ≤ n) × (r ≤ 127) ⌝ }
+{
+    if 127 < n {
+        return 127;
+    }
+    n
+}
+
+// The heights of the numbers 1 to 127: 1 past the nodes.
 pub fn heights(n: usize, secondary: &[u32; 128], stamp: &[u32; 128]) -> [u32; 128]
     requires { ⌜ Dated n (now stamp) ⌝ }
     ensures { λ r. ⌜ r ≡ table 127 (heightIn n (now (secondary .entry)) (now (stamp .entry))) ⌝ }
 {
-    let mut out = [0u32; 128];
+    let last = last_node(n);
+    let mut out = [1u32; 128];
+    out[0] = 0;
     let mut v: usize = 0;
-    while v < 127 {
+    while v < last {
         let w = v + 1;
-        out[w] = height_in(n, secondary, stamp, w);
+        out[w] = height_of(n, secondary, stamp, w);
         v = w;
     }
     out
