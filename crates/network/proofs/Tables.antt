@@ -4,8 +4,12 @@ use mathlib.Core.Path.{_≡_, _∙_}
 use Prim.Native.Nat.{ℕ, _≤_, _<_}
 use lib.ListN.{length, length-replicate, getD-replicate, List·getD-eq-default}
 use native.Mathlib.Omega.{arith}
+use mathlib.Core.List.{List}
+use Rattle.finite.specs.Tests.{same}
+use Rattle.finite.specs.Range.{children}
 use Rattle.finite.specs.Tables.{at, within}
 use Rattle.finite.proofs.Cases.{byLess}
+use Rattle.finite.proofs.Count.{count-le}
 use Rattle.finite.proofs.Tables.{length-filled, filled-in, filled-out, filled-zero, filled-within}
 use Rattle.network.specs.Tables.{zeros, table}
 
@@ -41,3 +45,11 @@ module _ (n : ℕ) (f : ℕ → ℕ) where
     pub table-within : at (table n f) ≡ within n f
     unfolding table
     table-within = filled-within n zeros f (omega (arith, zeros-long)) zeros-at
+
+-- a table of counts over the nodes holds small numbers
+pub arcs-at : (n : ℕ) (parent arcs : List ℕ) (v : ℕ) → arcs ≡ table n (children n (at parent)) → n ≤ 127 → 1 ≤ v → v ≤ n → at arcs v ≡ children n (at parent) v
+arcs-at n parent arcs v e b l u = rw e (table-at n (children n (at parent)) b v l u)
+
+pub arcs-small : (n : ℕ) (parent arcs : List ℕ) (v : ℕ) → arcs ≡ table n (children n (at parent)) → n ≤ 127 → 1 ≤ v → v ≤ n → at arcs v ≤ 127
+unfolding children
+arcs-small n parent arcs v e b l u = omega (arith, arcs-at n parent arcs v e b l u, count-le n (λ x. same (at parent x) v))

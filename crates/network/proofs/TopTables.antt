@@ -1,26 +1,29 @@
 -- The tables of components by their tops hold what topology says of the network: the tops stand in a table, and a count over the nodes reads that.
 -- Assumes nothing.
 use mathlib.Core.Path.{_≡_, refl, sym, _∙_, ap}
-use mathlib.Core.Bool.{Bool, _&&_}
+use mathlib.Core.Bool.{Bool, true, false, _&&_}
 use mathlib.Core.List.{List, [], _∷_}
-use lib.ListN.{length, getD, List·getD-eq-default}
-use Prim.Native.Nat.{ℕ, zero, suc, _≤_, _<_}
+use lib.ListN.{length, getD, set, replicate, length-set, length-replicate, getD-replicate, List·getD-eq-default}
+use lib.Seq.{getD-set-same, getD-set-other}
+use Prim.Native.Nat.{ℕ, zero, suc, _+_, _≤_, _<_}
 use native.Mathlib.Omega.{arith}
-use Rattle.finite.specs.Tests.{under}
-use Rattle.finite.specs.Range.{some, count}
+use Rattle.finite.specs.Tests.{same, under, tally}
+use Rattle.finite.specs.Range.{some, count, children}
 use Rattle.finite.specs.Tables.{at, filled}
 use Rattle.finite.proofs.Cases.{byEq, byLess}
-use Rattle.finite.proofs.Tests.{is-under, not-under, is-same, not-same}
+use Rattle.finite.proofs.Tests.{is-under, not-under, is-same, not-same, and-no-r}
 use Rattle.finite.proofs.Every.{some-same}
 use Rattle.finite.proofs.Count.{count-same, count-done}
-use Rattle.finite.proofs.Tables.{within-out}
+use Rattle.finite.proofs.Sum.{sum-zero-range, sum-suc}
+use Rattle.finite.proofs.Tables.{length-filled, filled-in, filled-out, filled-zero, filled-ext, within-out}
 use Rattle.topology.specs.Networks.{Network, Sound, isReticulation}
 use Rattle.topology.specs.Switchings.{height}
 use Rattle.topology.specs.Components.{component, memberOf, members, indexOf}
 use Rattle.topology.specs.Tables.{networkOf, rankFrom}
 use Rattle.network.specs.Refusals.{crowdedAt, refusal11}
-use Rattle.network.specs.Tables.{zeros, table, memberWith, memberAt, membersFrom, earlierAt, indexFrom, crowdedFrom, heightIn}
-use Rattle.network.proofs.Tables.{table-at, table-long, table-zero}
+use Rattle.network.specs.Tables.{zeros, table, slotOf, Counted, memberWith, memberAt, membersFrom, reticulationTop, reticulationTopAt, earlierAt, indexFrom, crowdedFrom, heightIn, lastNode, flat}
+use Rattle.network.proofs.Tables.{zeros-long, zeros-at, table-at, table-long, table-zero}
+use Rattle.network.proofs.Histogram.{slot-node}
 use Rattle.network.proofs.Acceptance.{secondary-at}
 use Rattle.network.proofs.Ways.{height-is}
 
@@ -37,6 +40,47 @@ table-same n f g h = filled-same n zeros f g h
 pub index-done : (n v r c k : ℕ) (secondary tops : List ℕ) → c ≡ at tops r → v ≤ n → n ≤ v → k ≡ count v (earlierAt secondary tops c r) → k ≡ indexFrom n secondary tops r
 unfolding indexFrom
 index-done n v r c k secondary tops e a b h = rw (← e) (count-done (earlierAt secondary tops c r) n v k a b h)
+
+-- a reticulation of component c is one whose top is c
+member-key : (secondary tops : List ℕ) (c : ℕ) → 1 ≤ c → (r : ℕ) → same (reticulationTopAt secondary tops r) c ≡ memberAt secondary tops c r
+unfolding memberAt memberWith reticulationTopAt reticulationTop
+member-key secondary tops c l r = byEq (at secondary r) 0 (λ e. rw (is-same e) (not-same {m = 0} {n = c} (λ q. omega arith))) (λ d. rw (not-same d))
+
+keys-are : (secondary tops : List ℕ) (v c : ℕ) → 1 ≤ c → children v (reticulationTopAt secondary tops) c ≡ count v (memberAt secondary tops c)
+unfolding children
+keys-are secondary tops v c l = count-same v _ _ (λ r _ _. member-key secondary tops c l r)
+
+pub members-counted : (n : ℕ) (secondary tops out : List ℕ) → out ≡ table n (children n (reticulationTopAt secondary tops)) → out ≡ table n (membersFrom n secondary tops)
+unfolding membersFrom
+members-counted n secondary tops out e = e ∙ table-same n _ _ (λ c l _. keys-are secondary tops n c l)
+
+and-true : (b : Bool) → (b && true) ≡ b
+and-true true = refl
+and-true false = refl
+
+-- those of 1..n that pass and are not above v
+count-whole : (v : ℕ) (f : ℕ → Bool) → count v (λ q. f q && under q (v + 1)) ≡ count v f
+count-whole v f = count-same v _ f (λ q _ u. rw (is-under {m = q} {n = v + 1} (omega arith)) (and-true (f q)))
+
+count-below : (n v : ℕ) (f : ℕ → Bool) → v ≤ n → count n (λ q. f q && under q (v + 1)) ≡ count v f
+unfolding count
+count-below zero v f l = let e : v ≡ 0 = omega arith in rw e (sum-zero-range _ ∙ sym (sum-zero-range _))
+count-below (suc k) v f l = byEq v (suc k) (λ e. rw (← e) (count-whole v f))
+    (λ d. omega (
+      arith,
+      sum-suc k (λ q. tally (f q && under q (v + 1))),
+      ap tally (and-no-r (f (suc k)) (under (suc k) (v + 1)) (not-under (omega arith))),
+      count-below k v f (omega arith),
+    ))
+
+-- the count at the top of v + 1, a node, is the index of v + 1
+pub index-seen : (n v x c : ℕ) (secondary tops seen : List ℕ) → v < n → Counted n (reticulationTopAt secondary tops) v seen → c ≡ slotOf n x → x ≡ at tops (v + 1) → (c ≡ 0 → ⊥)
+    → at seen c ≡ indexFrom n secondary tops (v + 1)
+unfolding indexFrom earlierAt
+index-seen n v x c secondary tops seen l s e q d = let k = slot-node n x c e d in
+    let h : c ≡ at tops (v + 1) = k .2 ∙ q in
+    s .inside c (omega (arith, k .0, k .2)) (omega (arith, k .1, k .2)) ∙ keys-are secondary tops v c (omega (arith, k .0, k .2))
+    ∙ rw (← h) (sym (count-below n v (memberAt secondary tops c) (omega arith)))
 
 -- within the list the default does not matter
 default-in : (l : List ℕ) (v : ℕ) → v < length l → getD l v 1 ≡ at l v
@@ -86,6 +130,51 @@ module _ (n : ℕ) (principal secondary stamp : List ℕ) (b : n ≤ 127) where
 
   pub crowded-told : (t m : List ℕ) (r : Bool) → t ≡ table n (component N) → m ≡ table n (membersFrom n secondary t) → r ≡ some n (crowdedFrom m) → r ≡ refusal11 N
   crowded-told t m r e q h = h ∙ rw (q, e) crowded-are
+
+-- what a table of heights holds before the nodes' own stand in it
+flat-long : length flat ≡ 128
+unfolding flat
+flat-long = length-set {A = ℕ} (replicate 128 1) 0 0 ∙ length-replicate {A = ℕ} 128 1
+
+flat-zero : at flat 0 ≡ 0
+unfolding flat
+flat-zero = getD-set-same {A = ℕ} (replicate 128 1) 0 0 0 (omega (arith, length-replicate {A = ℕ} 128 1))
+
+flat-in : (v : ℕ) → 1 ≤ v → v ≤ 127 → at flat v ≡ 1
+unfolding flat
+flat-in v l u = getD-set-other {A = ℕ} (replicate 128 1) 0 v 0 0 (λ e. omega arith) ∙ getD-replicate {A = ℕ} 128 v 1 0 (omega arith)
+
+flat-out : (v : ℕ) → 127 < v → at flat v ≡ 0
+flat-out v l = List·getD-eq-default flat 0 {n = v} (omega (arith, flat-long))
+
+last-many : (n : ℕ) → 127 < n → lastNode n ≡ 127
+unfolding lastNode
+last-many n l = rw (is-under l)
+
+last-few : (n : ℕ) → n ≤ 127 → lastNode n ≡ n
+unfolding lastNode
+last-few n l = rw (not-under l)
+
+last-le : (n : ℕ) → lastNode n ≤ 127
+last-le n = byLess 127 n (λ l. omega (arith, last-many n l)) (λ l. omega (arith, last-few n l))
+
+-- so filled at the nodes it is the table of heights
+module _ (n : ℕ) (secondary stamp : List ℕ) where
+  height-past : (v : ℕ) → n < v → heightIn n secondary stamp v ≡ 1
+  unfolding heightIn
+  height-past v l = rw (is-under l)
+
+  pub heights-filled : (last : ℕ) (out : List ℕ) → last ≡ lastNode n → out ≡ filled last flat (heightIn n secondary stamp) → out ≡ table 127 (heightIn n secondary stamp)
+  unfolding table
+  heights-filled last out e q = q ∙ filled-ext 127 zeros (filled last flat f) f (omega (arith, zeros-long)) (length-filled last flat f ∙ flat-long ∙ sym zeros-long)
+      (λ v l u. byLess last v
+      (λ g. filled-out last flat f v g ∙ flat-in v l u ∙ sym (height-past v (byLess 127 n (λ h. absurd (omega (arith, e, last-many n h))) (λ h. omega (arith, e, last-few n h)))))
+      (λ g. filled-in last flat f v l g (omega (arith, flat-long, e, last-le n))))
+      (λ v l. filled-out last flat f v (omega (arith, e, last-le n)) ∙ flat-out v l ∙ sym (zeros-at v))
+      (filled-zero last flat f ∙ flat-zero ∙ sym (zeros-at 0))
+    where
+      f : ℕ → ℕ
+      f = heightIn n secondary stamp
 
 -- the table of heights holds topology's height of every number, with 1 past its end
 module _ (n : ℕ) (principal secondary stamp : List ℕ) where

@@ -1,6 +1,6 @@
--- What the code asks of one node for refusal 9: proofs/ShortForms shows that it comes to what 01 says (`refusal9`).
+-- What the code asks of one node for refusals 9 and 10: proofs/ShortForms shows that it comes to what 01 says (`refusal9`, `refusal10`).
 -- Assumes nothing.
-use mathlib.Core.Bool.{Bool, _||_, not, cond}
+use mathlib.Core.Bool.{Bool, _&&_, _||_, not, cond}
 use mathlib.Core.List.{List}
 use Prim.Native.Nat.{ℕ}
 use Rattle.finite.specs.Tests.{same}
@@ -14,3 +14,14 @@ wrongSpecies leaf k c = cond leaf (same k 0 || not (same c 1)) (not (same k 0))
 
 unfoldable pub wrongSpeciesAt : ℕ → (principal secondary species : List ℕ) → ℕ → Bool
 wrongSpeciesAt n principal secondary species v = wrongSpecies (leafAt n principal secondary v) (at species v) (children n (at species) (at species v))
+
+-- the principal parent of a node that is no reticulation; 0 of a reticulation
+unfoldable pub plainParent : (principal secondary : ℕ) → ℕ
+plainParent principal secondary = cond (same secondary 0) principal 0
+
+unfoldable pub plainParentAt : (principal secondary : List ℕ) → ℕ → ℕ
+plainParentAt principal secondary w = plainParent (at principal w) (at secondary w)
+
+-- a node with a principal and b secondary arcs out, of which k lead to no reticulation
+unfoldable pub onlyReticulations : (a b k : ℕ) → Bool
+onlyReticulations a b k = same k 0 && (not (same a 0) || not (same b 0))

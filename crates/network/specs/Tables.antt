@@ -4,9 +4,9 @@ use mathlib.Core.Path.{_≡_}
 use mathlib.Core.Bool.{Bool, _&&_, _||_, not, cond, Bool·beq}
 use mathlib.Core.List.{List}
 use Prim.Native.Nat.{ℕ, suc, _≤_, _<_}
-use lib.ListN.{length, replicate}
+use lib.ListN.{length, replicate, set}
 use Rattle.finite.specs.Tests.{same, under}
-use Rattle.finite.specs.Range.{some, count}
+use Rattle.finite.specs.Range.{some, count, children}
 use Rattle.finite.specs.Tables.{at, filled}
 use Rattle.topology.specs.Networks.{Network, Node, isReticulation}
 use Rattle.topology.specs.Switchings.{allPrincipal, above}
@@ -18,6 +18,22 @@ zeros = replicate 128 0
 
 unfoldable pub table : ℕ → (ℕ → ℕ) → List ℕ
 table n f = filled n zeros f
+
+-- where a pass counts a key: at the key where it is a node, else at 0
+unfoldable pub slotOf : (n key : ℕ) → ℕ
+slotOf n key = cond (under n key) 0 key
+
+-- a pass has counted the keys of 1..v: at each node how many of them it is
+pub record Counted (n : ℕ) (key : ℕ → ℕ) (v : ℕ) (out : List ℕ) : Type 0 where
+  pub long : length out ≡ 128
+  pub small : (c : ℕ) → at out c ≤ v
+  pub inside : (c : ℕ) → 1 ≤ c → c ≤ n → at out c ≡ children v key c
+  pub outside : (c : ℕ) → n < c → at out c ≡ 0
+
+-- the tables of the principal and of the secondary arcs out of each node
+pub record ArcsOut (n : ℕ) (principal secondary principals secondaries : List ℕ) : Type 0 where
+  pub first : principals ≡ table n (children n (at principal))
+  pub second : secondaries ≡ table n (children n (at secondary))
 
 -- the height of node v (`height` of topology) from its secondary parent and its stamp; 0 for no node
 unfoldable pub heightWith : (v secondary stamp : ℕ) → ℕ
@@ -63,6 +79,13 @@ memberAt secondary tops c r = memberWith (at secondary r) (at tops r) c
 unfoldable pub membersFrom : ℕ → (secondary tops : List ℕ) → ℕ → ℕ
 membersFrom n secondary tops c = count n (memberAt secondary tops c)
 
+-- the top of a reticulation's component; 0 of another node
+unfoldable pub reticulationTop : (secondary top : ℕ) → ℕ
+reticulationTop secondary top = cond (same secondary 0) 0 top
+
+unfoldable pub reticulationTopAt : (secondary tops : List ℕ) → ℕ → ℕ
+reticulationTopAt secondary tops r = reticulationTop (at secondary r) (at tops r)
+
 -- a reticulation q of component c before r, and how many there are in r's component (`indexOf` of topology)
 unfoldable pub earlierAt : (secondary tops : List ℕ) → (c r q : ℕ) → Bool
 earlierAt secondary tops c r q = memberAt secondary tops c q && under q r
@@ -77,6 +100,14 @@ crowdedFrom members c = under 8 (at members c)
 -- the height of any number: 1 past the nodes
 unfoldable pub heightIn : ℕ → (secondary stamp : List ℕ) → ℕ → ℕ
 heightIn n secondary stamp v = cond (under n v) 1 (heightAt secondary stamp v)
+
+-- the last of the numbers 1 to 127 that is a node
+unfoldable pub lastNode : ℕ → ℕ
+lastNode n = cond (under 127 n) 127 n
+
+-- a table of heights before the nodes' own stand in it
+unfoldable pub flat : List ℕ
+flat = set (replicate 128 1) 0 0
 
 -- stamps as six columns hold them
 pub record Dated (n : ℕ) (stamp : List ℕ) : Type 0 where

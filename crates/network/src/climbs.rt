@@ -6,7 +6,7 @@ ghost use lib.ListN.{length};
 ghost use Rattle.topology.specs.Networks.{Sound};
 ghost use Rattle.topology.specs.Components.{component};
 ghost use Rattle.topology.specs.Tables.{networkOf};
-ghost use Rattle.network.specs.Tables.{table, heightWith, heightAt, heightIn, Dated, MarkedWay, MarkedWays, NonTops};
+ghost use Rattle.network.specs.Tables.{table, heightWith, heightAt, heightIn, lastNode, Dated, MarkedWay, MarkedWays, NonTops};
 
 fn height_with(v: usize, s: u32, t: u32) -> u64
     ensures { λ r. ⌜ r ≡ heightWith v s t ⌝ }
@@ -29,27 +29,37 @@ fn height_at(secondary: &[u32; 128], stamp: &[u32; 128], v: usize) -> u64
     height_with(v, secondary[v], stamp[v])
 }
 
-fn height_in(n: usize, secondary: &[u32; 128], stamp: &[u32; 128], v: usize) -> u32
-    requires { ⌜ (1 ≤ v) × (v ≤ 127) ⌝ }
+// The height of a node, whose stamp six columns hold.
+fn height_of(n: usize, secondary: &[u32; 128], stamp: &[u32; 128], v: usize) -> u32
+    requires { ⌜ (1 ≤ v) × (v ≤ 127) × (v ≤ n) ⌝ }
     requires { ⌜ Dated n (now stamp) ⌝ }
     ensures { λ r. ⌜ r ≡ heightIn n (now (secondary .entry)) (now (stamp .entry)) v ⌝ }
 {
-    if n < v {
-        return 1;
-    }
     height_at(secondary, stamp, v) as u32
 }
 
-// The heights of the numbers 1 to 127.
+// The last of the numbers 1 to 127 that is a node.
+fn last_node(n: usize) -> usize
+    ensures { λ r. ⌜ (r ≡ lastNode n) × (r ≤ n) × (r ≤ 127) ⌝ }
+{
+    if 127 < n {
+        return 127;
+    }
+    n
+}
+
+// The heights of the numbers 1 to 127: 1 past the nodes.
 pub fn heights(n: usize, secondary: &[u32; 128], stamp: &[u32; 128]) -> [u32; 128]
     requires { ⌜ Dated n (now stamp) ⌝ }
     ensures { λ r. ⌜ r ≡ table 127 (heightIn n (now (secondary .entry)) (now (stamp .entry))) ⌝ }
 {
-    let mut out = [0u32; 128];
+    let last = last_node(n);
+    let mut out = [1u32; 128];
+    out[0] = 0;
     let mut v: usize = 0;
-    while v < 127 {
+    while v < last {
         let w = v + 1;
-        out[w] = height_in(n, secondary, stamp, w);
+        out[w] = height_of(n, secondary, stamp, w);
         v = w;
     }
     out
@@ -61,29 +71,27 @@ fn mark_way(
     principal: &[u32; 128],
     secondary: &[u32; 128],
     stamp: &[u32; 128],
-    marks: [u32; 128],
+    marks: &mut [u32; 128],
     x: usize,
     y: usize,
-) -> [u32; 128]
-    requires { ⌜ (n ≤ 127) × (x ≤ n) × (y ≤ n) × (length marks ≡ 128) ⌝ }
+)
+    requires { ⌜ (n ≤ 127) × (x ≤ n) × (y ≤ n) × (length (now marks) ≡ 128) ⌝ }
     requires { ⌜ Sound (networkOf n (now principal) (now secondary) (now stamp)) ⌝ }
-    ensures { λ r. ⌜ MarkedWay (networkOf n (now (principal .entry)) (now (secondary .entry)) (now (stamp .entry))) marks r x y ⌝ }
+    ensures { λ _. ⌜ MarkedWay (networkOf n (now (principal .entry)) (now (secondary .entry)) (now (stamp .entry))) (now (marks .entry)) (now (marks .exit)) x y ⌝ }
 {
-    let mut m = marks;
     let mut a = x;
     let mut b = y;
     while a != b {
         let p = height_at(secondary, stamp, a);
         let q = height_at(secondary, stamp, b);
         if p < q {
-            m[b] = 1;
+            marks[b] = 1;
             b = wide(principal[b]);
         } else {
-            m[a] = 1;
+            marks[a] = 1;
             a = wide(principal[a]);
         }
     }
-    m
 }
 
 // Marks the way between node v + 1 and its secondary parent, if it has one.
@@ -92,20 +100,20 @@ fn mark_next(
     principal: &[u32; 128],
     secondary: &[u32; 128],
     stamp: &[u32; 128],
-    marks: [u32; 128],
+    marks: &mut [u32; 128],
     v: usize,
-) -> [u32; 128]
+)
     requires { ⌜ (n ≤ 127) × (v < n) ⌝ }
     requires { ⌜ Sound (networkOf n (now principal) (now secondary) (now stamp)) ⌝ }
-    requires { ⌜ MarkedWays (networkOf n (now principal) (now secondary) (now stamp)) marks v ⌝ }
-    ensures { λ r. ⌜ MarkedWays (networkOf n (now (principal .entry)) (now (secondary .entry)) (now (stamp .entry))) r (v + 1) ⌝ }
+    requires { ⌜ MarkedWays (networkOf n (now principal) (now secondary) (now stamp)) (now marks) v ⌝ }
+    ensures { λ _. ⌜ MarkedWays (networkOf n (now (principal .entry)) (now (secondary .entry)) (now (stamp .entry))) (now (marks .exit)) (v + 1) ⌝ }
 {
     let w = v + 1;
     let s = wide(secondary[w]);
     if s == 0 {
-        return marks;
+        return;
     }
-    mark_way(n, principal, secondary, stamp, marks, w, s)
+    mark_way(n, principal, secondary, stamp, marks, w, s);
 }
 
 // The nodes that are no tops are marked.
@@ -122,8 +130,7 @@ fn non_tops(
     let mut m = [0u32; 128];
     let mut v: usize = 0;
     while v < n {
-        let next = mark_next(n, principal, secondary, stamp, m, v);
-        m = next;
+        mark_next(n, principal, secondary, stamp, &mut m, v);
         v += 1;
     }
     m

@@ -1,14 +1,15 @@
 // The reticulations of each component, by the tops, and refusal 11.
 use super::climbs::tops;
 use super::counts::one_if_true;
+use super::counts::slot;
 use super::counts::wide;
 ghost use mathlib.Core.Path.{_≡_};
-ghost use Prim.Native.Nat.{_≤_};
+ghost use Prim.Native.Nat.{_+_, _≤_, _<_};
 ghost use Rattle.finite.specs.Range.{some};
 ghost use Rattle.network.specs.Refusals.{refusal11};
 ghost use Rattle.topology.specs.Networks.{Sound};
 ghost use Rattle.topology.specs.Tables.{networkOf};
-ghost use Rattle.network.specs.Tables.{table, memberWith, memberAt, membersFrom, earlierAt, indexFrom, crowdedFrom};
+ghost use Rattle.network.specs.Tables.{table, Counted, memberWith, memberAt, membersFrom, reticulationTop, reticulationTopAt, earlierAt, indexFrom, crowdedFrom};
 
 fn member_with(s: u32, top: usize, c: usize) -> bool
     ensures { λ r. ⌜ r ≡ memberWith s top c ⌝ }
@@ -26,18 +27,14 @@ fn member_at(secondary: &[u32; 128], tops: &[u32; 128], c: usize, r: usize) -> b
     member_with(secondary[r], wide(tops[r]), c)
 }
 
-fn members_at(n: usize, secondary: &[u32; 128], tops: &[u32; 128], c: usize) -> u32
-    requires { ⌜ n ≤ 127 ⌝ }
-    ensures { λ r. ⌜ r ≡ membersFrom n (now (secondary .entry)) (now (tops .entry)) c ⌝ }
+// The top of a reticulation's component; 0 of another node.
+fn reticulation_top(s: u32, top: u32) -> usize
+    ensures { λ r. ⌜ r ≡ reticulationTop s top ⌝ }
 {
-    let mut k: u32 = 0;
-    let mut v: usize = 0;
-    while v < n {
-        let w = v + 1;
-        k += one_if_true(member_at(secondary, tops, c, w));
-        v = w;
+    if s == 0 {
+        return 0;
     }
-    k
+    wide(top)
 }
 
 // How many reticulations each component has, at its top.
@@ -49,9 +46,11 @@ pub fn members(n: usize, secondary: &[u32; 128], tops: &[u32; 128]) -> [u32; 128
     let mut v: usize = 0;
     while v < n {
         let w = v + 1;
-        out[w] = members_at(n, secondary, tops, w);
+        let k = slot(n, reticulation_top(secondary[w], tops[w]));
+        out[k] = out[k] + 1;
         v = w;
     }
+    out[0] = 0;
     out
 }
 
@@ -80,16 +79,39 @@ fn index_at(n: usize, secondary: &[u32; 128], tops: &[u32; 128], r: usize) -> u3
     k
 }
 
+// The index of node v + 1, the reticulations up to v being counted at their tops. A top that is no node has no count: the nodes are then asked.
+fn index_next(
+    n: usize,
+    secondary: &[u32; 128],
+    tops: &[u32; 128],
+    seen: &[u32; 128],
+    v: usize,
+) -> u32
+    requires { ⌜ (n ≤ 127) × (v < n) ⌝ }
+    requires { ⌜ Counted n (reticulationTopAt (now secondary) (now tops)) v (now seen) ⌝ }
+    ensures { λ k. ⌜ k ≡ indexFrom n (now (secondary .entry)) (now (tops .entry)) (v + 1) ⌝ }
+{
+    let r = v + 1;
+    let c = slot(n, wide(tops[r]));
+    if c == 0 {
+        return index_at(n, secondary, tops, r);
+    }
+    seen[c]
+}
+
 // How many reticulations of its component have a lower number than each node.
 pub fn indices(n: usize, secondary: &[u32; 128], tops: &[u32; 128]) -> [u32; 128]
     requires { ⌜ n ≤ 127 ⌝ }
     ensures { λ r. ⌜ r ≡ table n (indexFrom n (now (secondary .entry)) (now (tops .entry))) ⌝ }
 {
+    let mut seen = [0u32; 128];
     let mut out = [0u32; 128];
     let mut v: usize = 0;
     while v < n {
         let w = v + 1;
-        out[w] = index_at(n, secondary, tops, w);
+        out[w] = index_next(n, secondary, tops, &seen, v);
+        let k = slot(n, reticulation_top(secondary[w], tops[w]));
+        seen[k] = seen[k] + 1;
         v = w;
     }
     out

@@ -4,7 +4,7 @@ ghost use Prim.Native.Nat.{_≤_};
 ghost use Rattle.finite.specs.Tests.{same, tally};
 ghost use Rattle.finite.specs.Range.{children};
 ghost use Rattle.finite.specs.Tables.{at};
-ghost use Rattle.network.specs.Tables.{table};
+ghost use Rattle.network.specs.Tables.{table, slotOf};
 
 pub fn wide(x: u32) -> usize
     ensures { λ r. ⌜ r ≡ x ⌝ }
@@ -46,7 +46,17 @@ pub fn count_of(n: usize, xs: &[u32; 128], x: usize) -> usize
     r
 }
 
-// The arcs out of each node, of the kind of arc that the table of parents holds.
+// Where a pass counts the key k: at k where that is a node, else at 0.
+pub fn slot(n: usize, k: usize) -> usize
+    ensures { λ r. ⌜ (r ≡ slotOf n k) × (r ≤ n) ⌝ }
+{
+    if n < k {
+        return 0;
+    }
+    k
+}
+
+// How many of the entries 1 to n are each of 1 to n: the arcs out of each node, of the kind of arc that the table of parents holds.
 pub fn arcs_out(n: usize, parent: &[u32; 128]) -> [u32; 128]
     requires { ⌜ n ≤ 127 ⌝ }
     ensures { λ r. ⌜ r ≡ table n (children n (at (now (parent .entry)))) ⌝ }
@@ -55,8 +65,10 @@ pub fn arcs_out(n: usize, parent: &[u32; 128]) -> [u32; 128]
     let mut v: usize = 0;
     while v < n {
         let w = v + 1;
-        out[w] = count_of(n, parent, w) as u32;
+        let k = slot(n, wide(parent[w]));
+        out[k] = out[k] + 1;
         v = w;
     }
+    out[0] = 0;
     out
 }

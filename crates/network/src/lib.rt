@@ -6,6 +6,7 @@ mod parents;
 pub mod shapes;
 
 use components::eleven;
+use counts::arcs_out;
 use parents::seven;
 use parents::six;
 use shapes::eight;
@@ -32,13 +33,15 @@ pub fn verdict(
     if seven(n, principal, secondary, stamp) {
         return 7;
     }
-    if eight(n, principal, secondary) {
+    let principals = arcs_out(n, principal);
+    let secondaries = arcs_out(n, secondary);
+    if eight(n, principal, secondary, &principals, &secondaries) {
         return 8;
     }
-    if nine(n, principal, secondary, species) {
+    if nine(n, principal, secondary, species, &principals, &secondaries) {
         return 9;
     }
-    if ten(n, principal, secondary) {
+    if ten(n, principal, secondary, &principals, &secondaries) {
         return 10;
     }
     if eleven(n, principal, secondary, stamp) {

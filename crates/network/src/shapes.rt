@@ -1,13 +1,15 @@
 // Refusals 8, 9 and 10: what a node is by its parents and arcs out, its species and its children.
 use super::counts::count_of;
+use super::counts::slot;
 use super::counts::wide;
 ghost use mathlib.Core.Path.{_≡_};
 ghost use Prim.Native.Nat.{_≤_};
-ghost use Rattle.finite.specs.Range.{some, every};
-ghost use Rattle.network.specs.Refusals.{reticulationWith, innerWith, leafWith, shapeless, shapelessAt, refusal8, leafAt, refusal9, childWith, childAt, reticulationIfChild, onlyReticulationsAt, refusal10};
-ghost use Rattle.network.specs.ShortForms.{wrongSpecies, wrongSpeciesAt};
+ghost use Rattle.finite.specs.Range.{children};
+ghost use Rattle.network.specs.Refusals.{reticulationWith, innerWith, leafWith, shapeless, shapelessAt, refusal8, refusal9, onlyReticulationsAt, refusal10};
+ghost use Rattle.network.specs.ShortForms.{wrongSpeciesAt, plainParent, plainParentAt, onlyReticulations};
+ghost use Rattle.network.specs.Tables.{table, ArcsOut};
 
-fn reticulation_with(p: u32, s: u32, a: usize, b: usize) -> bool
+fn reticulation_with(p: u32, s: u32, a: u32, b: u32) -> bool
     ensures { λ r. ⌜ r ≡ reticulationWith p s a b ⌝ }
 {
     if p == 0 {
@@ -22,7 +24,7 @@ fn reticulation_with(p: u32, s: u32, a: usize, b: usize) -> bool
     b == 0
 }
 
-fn inner_with(s: u32, a: usize, b: usize) -> bool
+fn inner_with(s: u32, a: u32, b: u32) -> bool
     requires { ⌜ (a ≤ 127) × (b ≤ 127) ⌝ }
     ensures { λ r. ⌜ r ≡ innerWith s a b ⌝ }
 {
@@ -35,7 +37,7 @@ fn inner_with(s: u32, a: usize, b: usize) -> bool
     0 < a
 }
 
-fn leaf_with(s: u32, a: usize, b: usize) -> bool
+fn leaf_with(s: u32, a: u32, b: u32) -> bool
     ensures { λ r. ⌜ r ≡ leafWith s a b ⌝ }
 {
     if s != 0 {
@@ -48,7 +50,7 @@ fn leaf_with(s: u32, a: usize, b: usize) -> bool
 }
 
 // 8: of one node, by its parents and the numbers of principal and secondary arcs out.
-fn shapeless(p: u32, s: u32, a: usize, b: usize) -> bool
+fn shapeless(p: u32, s: u32, a: u32, b: u32) -> bool
     requires { ⌜ (a ≤ 127) × (b ≤ 127) ⌝ }
     ensures { λ r. ⌜ r ≡ shapeless p s a b ⌝ }
 {
@@ -61,23 +63,36 @@ fn shapeless(p: u32, s: u32, a: usize, b: usize) -> bool
     !leaf_with(s, a, b)
 }
 
-fn shapeless_at(n: usize, principal: &[u32; 128], secondary: &[u32; 128], v: usize) -> bool
-    requires { ⌜ (n ≤ 127) × (v ≤ 127) ⌝ }
+fn shapeless_at(
+    n: usize,
+    principal: &[u32; 128],
+    secondary: &[u32; 128],
+    principals: &[u32; 128],
+    secondaries: &[u32; 128],
+    v: usize,
+) -> bool
+    requires { ⌜ (n ≤ 127) × (1 ≤ v) × (v ≤ n) ⌝ }
+    requires { ⌜ ArcsOut n (now principal) (now secondary) (now principals) (now secondaries) ⌝ }
     ensures { λ r. ⌜ r ≡ shapelessAt n (now (principal .entry)) (now (secondary .entry)) v ⌝ }
 {
-    let a = count_of(n, principal, v);
-    let b = count_of(n, secondary, v);
-    shapeless(principal[v], secondary[v], a, b)
+    shapeless(principal[v], secondary[v], principals[v], secondaries[v])
 }
 
-// 8.
-pub fn eight(n: usize, principal: &[u32; 128], secondary: &[u32; 128]) -> bool
+// 8, by the tables of the principal and of the secondary arcs out of each node.
+pub fn eight(
+    n: usize,
+    principal: &[u32; 128],
+    secondary: &[u32; 128],
+    principals: &[u32; 128],
+    secondaries: &[u32; 128],
+) -> bool
     requires { ⌜ n ≤ 127 ⌝ }
+    requires { ⌜ ArcsOut n (now principal) (now secondary) (now principals) (now secondaries) ⌝ }
     ensures { λ r. ⌜ r ≡ refusal8 n (now (principal .entry)) (now (secondary .entry)) ⌝ }
 {
     let mut v: usize = 0;
     while v < n {
-        if shapeless_at(n, principal, secondary, v + 1) {
+        if shapeless_at(n, principal, secondary, principals, secondaries, v + 1) {
             return true;
         }
         v += 1;
@@ -85,52 +100,54 @@ pub fn eight(n: usize, principal: &[u32; 128], secondary: &[u32; 128]) -> bool
     false
 }
 
-pub fn leaf_at(n: usize, principal: &[u32; 128], secondary: &[u32; 128], v: usize) -> bool
-    requires { ⌜ (n ≤ 127) × (v ≤ 127) ⌝ }
-    ensures { λ r. ⌜ r ≡ leafAt n (now (principal .entry)) (now (secondary .entry)) v ⌝ }
-{
-    let a = count_of(n, principal, v);
-    let b = count_of(n, secondary, v);
-    leaf_with(secondary[v], a, b)
-}
-
-// 9: of one node, with species k, which c nodes have.
-fn wrong_species(leaf: bool, k: usize, c: usize) -> bool
-    ensures { λ r. ⌜ r ≡ wrongSpecies leaf k c ⌝ }
-{
-    if leaf {
-        if k == 0 {
-            return true;
-        }
-        return c != 1;
-    }
-    k != 0
-}
-
+// 9: of one node. Only a leaf with a species asks how many nodes have that.
 fn wrong_species_at(
     n: usize,
     principal: &[u32; 128],
     secondary: &[u32; 128],
     species: &[u32; 128],
+    principals: &[u32; 128],
+    secondaries: &[u32; 128],
     v: usize,
 ) -> bool
-    requires { ⌜ (n ≤ 127) × (v ≤ 127) ⌝ }
+    requires { ⌜ (n ≤ 127) × (1 ≤ v) × (v ≤ n) ⌝ }
+    requires { ⌜ ArcsOut n (now principal) (now secondary) (now principals) (now secondaries) ⌝ }
     ensures { λ r. ⌜ r ≡ wrongSpeciesAt n (now (principal .entry)) (now (secondary .entry)) (now (species .entry)) v ⌝ }
 {
-    let leaf = leaf_at(n, principal, secondary, v);
     let k = wide(species[v]);
-    let c = count_of(n, species, k);
-    wrong_species(leaf, k, c)
+    if !leaf_with(secondary[v], principals[v], secondaries[v]) {
+        return k != 0;
+    }
+    if k == 0 {
+        return true;
+    }
+    count_of(n, species, k) != 1
 }
 
 // 9.
-pub fn nine(n: usize, principal: &[u32; 128], secondary: &[u32; 128], species: &[u32; 128]) -> bool
+pub fn nine(
+    n: usize,
+    principal: &[u32; 128],
+    secondary: &[u32; 128],
+    species: &[u32; 128],
+    principals: &[u32; 128],
+    secondaries: &[u32; 128],
+) -> bool
     requires { ⌜ n ≤ 127 ⌝ }
+    requires { ⌜ ArcsOut n (now principal) (now secondary) (now principals) (now secondaries) ⌝ }
     ensures { λ r. ⌜ r ≡ refusal9 n (now (principal .entry)) (now (secondary .entry)) (now (species .entry)) ⌝ }
 {
     let mut v: usize = 0;
     while v < n {
-        if wrong_species_at(n, principal, secondary, species, v + 1) {
+        if wrong_species_at(
+            n,
+            principal,
+            secondary,
+            species,
+            principals,
+            secondaries,
+            v + 1,
+        ) {
             return true;
         }
         v += 1;
@@ -138,79 +155,87 @@ pub fn nine(n: usize, principal: &[u32; 128], secondary: &[u32; 128], species: &
     false
 }
 
-fn child_with(p: usize, s: usize, v: usize) -> bool
-    ensures { λ r. ⌜ r ≡ childWith p s v ⌝ }
+// The principal parent of a node that is no reticulation; 0 of a reticulation.
+fn plain_parent(p: u32, s: u32) -> usize
+    ensures { λ r. ⌜ r ≡ plainParent p s ⌝ }
 {
-    if p == v {
-        return true;
+    if s == 0 {
+        return wide(p);
     }
-    s == v
+    0
 }
 
-fn child_at(principal: &[u32; 128], secondary: &[u32; 128], v: usize, w: usize) -> bool
-    requires { ⌜ w ≤ 127 ⌝ }
-    ensures { λ r. ⌜ r ≡ childAt (now (principal .entry)) (now (secondary .entry)) v w ⌝ }
-{
-    child_with(wide(principal[w]), wide(secondary[w]), v)
-}
-
-fn has_child(n: usize, principal: &[u32; 128], secondary: &[u32; 128], v: usize) -> bool
+// The arcs out of each node that lead to no reticulation: all are principal.
+fn plain_arcs(n: usize, principal: &[u32; 128], secondary: &[u32; 128]) -> [u32; 128]
     requires { ⌜ n ≤ 127 ⌝ }
-    ensures { λ r. ⌜ r ≡ some n (childAt (now (principal .entry)) (now (secondary .entry)) v) ⌝ }
+    ensures { λ r. ⌜ r ≡ table n (children n (plainParentAt (now (principal .entry)) (now (secondary .entry)))) ⌝ }
 {
-    let mut w: usize = 0;
-    while w < n {
-        if child_at(principal, secondary, v, w + 1) {
-            return true;
-        }
-        w += 1;
+    let mut out = [0u32; 128];
+    let mut v: usize = 0;
+    while v < n {
+        let w = v + 1;
+        let k = slot(n, plain_parent(principal[w], secondary[w]));
+        out[k] = out[k] + 1;
+        v = w;
     }
-    false
+    out[0] = 0;
+    out
 }
 
-fn reticulation_if_child(principal: &[u32; 128], secondary: &[u32; 128], v: usize, w: usize) -> bool
-    requires { ⌜ w ≤ 127 ⌝ }
-    ensures { λ r. ⌜ r ≡ reticulationIfChild (now (principal .entry)) (now (secondary .entry)) v w ⌝ }
+// 10: of a node with a principal and b secondary arcs out, of which k lead to no reticulation.
+fn only_reticulations(a: u32, b: u32, k: u32) -> bool
+    ensures { λ r. ⌜ r ≡ onlyReticulations a b k ⌝ }
 {
-    if !child_at(principal, secondary, v, w) {
-        return true;
-    }
-    secondary[w] != 0
-}
-
-fn all_reticulations(n: usize, principal: &[u32; 128], secondary: &[u32; 128], v: usize) -> bool
-    requires { ⌜ n ≤ 127 ⌝ }
-    ensures { λ r. ⌜ r ≡ every n (reticulationIfChild (now (principal .entry)) (now (secondary .entry)) v) ⌝ }
-{
-    let mut w: usize = 0;
-    while w < n {
-        if !reticulation_if_child(principal, secondary, v, w + 1) {
-            return false;
-        }
-        w += 1;
-    }
-    true
-}
-
-// 10: of one node.
-fn only_reticulations_at(n: usize, principal: &[u32; 128], secondary: &[u32; 128], v: usize) -> bool
-    requires { ⌜ n ≤ 127 ⌝ }
-    ensures { λ r. ⌜ r ≡ onlyReticulationsAt n (now (principal .entry)) (now (secondary .entry)) v ⌝ }
-{
-    if !has_child(n, principal, secondary, v) {
+    if k != 0 {
         return false;
     }
-    all_reticulations(n, principal, secondary, v)
+    if a != 0 {
+        return true;
+    }
+    b != 0
+}
+
+fn only_reticulations_at(
+    n: usize,
+    principal: &[u32; 128],
+    secondary: &[u32; 128],
+    principals: &[u32; 128],
+    secondaries: &[u32; 128],
+    plain: &[u32; 128],
+    v: usize,
+) -> bool
+    requires { ⌜ (n ≤ 127) × (1 ≤ v) × (v ≤ n) ⌝ }
+    requires { ⌜ ArcsOut n (now principal) (now secondary) (now principals) (now secondaries) ⌝ }
+    requires { ⌜ now plain ≡ table n (children n (plainParentAt (now principal) (now secondary))) ⌝ }
+    ensures { λ r. ⌜ r ≡ onlyReticulationsAt n (now (principal .entry)) (now (secondary .entry)) v ⌝ }
+{
+    only_reticulations(principals[v], secondaries[v], plain[v])
 }
 
 // 10.
-pub fn ten(n: usize, principal: &[u32; 128], secondary: &[u32; 128]) -> bool
+pub fn ten(
+    n: usize,
+    principal: &[u32; 128],
+    secondary: &[u32; 128],
+    principals: &[u32; 128],
+    secondaries: &[u32; 128],
+) -> bool
     requires { ⌜ n ≤ 127 ⌝ }
+    requires { ⌜ ArcsOut n (now principal) (now secondary) (now principals) (now secondaries) ⌝ }
     ensures { λ r. ⌜ r ≡ refusal10 n (now (principal .entry)) (now (secondary .entry)) ⌝ }
 {
+    let plain = plain_arcs(n, principal, secondary);
     let mut v: usize = 0;
     while v < n {
-        if only_reticulations_at(n, principal, secondary, v + 1) {
+        if only_reticulations_at(
+            n,
+            principal,
+            secondary,
+            principals,
+            secondaries,
+            &plain,
+            v + 1,
+        ) {
             return true;
         }
         v += 1;

@@ -1,4 +1,4 @@
--- Each return stands behind the refusals before it; where 6, 7 and 8 have passed the network is sound, which the climbs of 11 ask.
+-- Each return stands behind the refusals before it; 8, 9 and 10 read the tables of arcs out, counted once. Where 6, 7 and 8 have passed the network is sound, which the climbs of 11 ask.
 -- Assumes nothing.
 use Rattle.finite.proofs.Tests.{told}
 use Rattle.network.proofs.Acceptance.{sound}
@@ -14,37 +14,43 @@ returns : tie.Need-returns
 returns c = verdict-is-6 _ _ _ _ _ (told _ _ _ (c .before .six .ensures) (c .if1 .taken))
 
 seven-requires : tie.Need-seven-requires
-seven-requires c κs = (search needs, told _ _ _ (c .before .six .ensures) (c .if1 .left))
+seven-requires c κs = (search needs, (told _ _ _ (c .before .six .ensures) (c .if1 .left)))
 
 returns-2 : tie.Need-returns-2
 returns-2 c = verdict-is-7 _ _ _ _ _ (told _ _ _ (c .before .before .before .six .ensures) (c .before .before .if1 .left)) (told _ _ _ (c .before .seven .ensures) (c .if2 .taken))
 
+arcs-out-requires : tie.Need-arcs-out-requires
+arcs-out-requires c κs = search needs
+
+arcs-out-requires-2 : tie.Need-arcs-out-requires-2
+arcs-out-requires-2 c κs = search needs
+
 eight-requires : tie.Need-eight-requires
-eight-requires c κs = search needs
+eight-requires c κs = (search needs, record { first = c .before .before .before .arcs-out .ensures; second = c .before .before .arcs-out2 .ensures })
 
 returns-3 : tie.Need-returns-3
-returns-3 c = verdict-is-8 _ _ _ _ _ (told _ _ _ (c .before .before .before .before .before .six .ensures) (c .before .before .before .before .if1 .left)) (told _ _ _ (c .before .before .before .seven .ensures) (c .before .before .if2 .left)) (told _ _ _ (c .before .eight .ensures) (c .if3 .taken))
+returns-3 c = verdict-is-8 _ _ _ _ _ (told _ _ _ (c .before .before .before .before .before .before .before .before .before .six .ensures) (c .before .before .before .before .before .before .before .before .if1 .left)) (told _ _ _ (c .before .before .before .before .before .before .before .seven .ensures) (c .before .before .before .before .before .before .if2 .left)) (told _ _ _ (c .before .eight .ensures) (c .if3 .taken))
 
 nine-requires : tie.Need-nine-requires
-nine-requires c κs = search needs
+nine-requires c κs = (search needs, record { first = c .before .before .before .before .before .before .before .arcs-out .ensures; second = c .before .before .before .before .before .before .arcs-out2 .ensures })
 
 returns-4 : tie.Need-returns-4
-returns-4 c = verdict-is-9 _ _ _ _ _ (told _ _ _ (c .before .before .before .before .before .before .before .six .ensures) (c .before .before .before .before .before .before .if1 .left)) (told _ _ _ (c .before .before .before .before .before .seven .ensures) (c .before .before .before .before .if2 .left)) (told _ _ _ (c .before .before .before .eight .ensures) (c .before .before .if3 .left)) (told _ _ _ (c .before .nine .ensures) (c .if4 .taken))
+returns-4 c = verdict-is-9 _ _ _ _ _ (told _ _ _ (c .before .before .before .before .before .before .before .before .before .before .before .before .before .six .ensures) (c .before .before .before .before .before .before .before .before .before .before .before .before .if1 .left)) (told _ _ _ (c .before .before .before .before .before .before .before .before .before .before .before .seven .ensures) (c .before .before .before .before .before .before .before .before .before .before .if2 .left)) (told _ _ _ (c .before .before .before .before .before .eight .ensures) (c .before .before .before .before .if3 .left)) (told _ _ _ (c .before .nine .ensures) (c .if4 .taken))
 
 ten-requires : tie.Need-ten-requires
-ten-requires c κs = search needs
+ten-requires c κs = (search needs, record { first = c .before .before .before .before .before .before .before .before .before .before .before .arcs-out .ensures; second = c .before .before .before .before .before .before .before .before .before .before .arcs-out2 .ensures })
 
 returns-5 : tie.Need-returns-5
-returns-5 c = verdict-is-10 _ _ _ _ _ (told _ _ _ (c .before .before .before .before .before .before .before .before .before .six .ensures) (c .before .before .before .before .before .before .before .before .if1 .left)) (told _ _ _ (c .before .before .before .before .before .before .before .seven .ensures) (c .before .before .before .before .before .before .if2 .left)) (told _ _ _ (c .before .before .before .before .before .eight .ensures) (c .before .before .before .before .if3 .left)) (told _ _ _ (c .before .before .before .nine .ensures) (c .before .before .if4 .left)) (told _ _ _ (c .before .ten .ensures) (c .if5 .taken))
+returns-5 c = verdict-is-10 _ _ _ _ _ (told _ _ _ (c .before .before .before .before .before .before .before .before .before .before .before .before .before .before .before .before .before .six .ensures) (c .before .before .before .before .before .before .before .before .before .before .before .before .before .before .before .before .if1 .left)) (told _ _ _ (c .before .before .before .before .before .before .before .before .before .before .before .before .before .before .before .seven .ensures) (c .before .before .before .before .before .before .before .before .before .before .before .before .before .before .if2 .left)) (told _ _ _ (c .before .before .before .before .before .before .before .before .before .eight .ensures) (c .before .before .before .before .before .before .before .before .if3 .left)) (told _ _ _ (c .before .before .before .before .before .nine .ensures) (c .before .before .before .before .if4 .left)) (told _ _ _ (c .before .ten .ensures) (c .if5 .taken))
 
 eleven-requires : tie.Need-eleven-requires
-eleven-requires c κs = (search needs, sound _ _ _ _ (told _ _ _ (c .before .before .before .before .before .before .before .before .before .six .ensures) (c .before .before .before .before .before .before .before .before .if1 .left)) (told _ _ _ (c .before .before .before .before .before .before .before .seven .ensures) (c .before .before .before .before .before .before .if2 .left)) (told _ _ _ (c .before .before .before .before .before .eight .ensures) (c .before .before .before .before .if3 .left)))
+eleven-requires c κs = (search needs, sound _ _ _ _ (told _ _ _ (c .before .before .before .before .before .before .before .before .before .before .before .before .before .before .before .before .before .six .ensures) (c .before .before .before .before .before .before .before .before .before .before .before .before .before .before .before .before .if1 .left)) (told _ _ _ (c .before .before .before .before .before .before .before .before .before .before .before .before .before .before .before .seven .ensures) (c .before .before .before .before .before .before .before .before .before .before .before .before .before .before .if2 .left)) (told _ _ _ (c .before .before .before .before .before .before .before .before .before .eight .ensures) (c .before .before .before .before .before .before .before .before .if3 .left)))
 
 returns-6 : tie.Need-returns-6
-returns-6 c = verdict-is-11 _ _ _ _ _ (told _ _ _ (c .before .before .before .before .before .before .before .before .before .before .before .six .ensures) (c .before .before .before .before .before .before .before .before .before .before .if1 .left)) (told _ _ _ (c .before .before .before .before .before .before .before .before .before .seven .ensures) (c .before .before .before .before .before .before .before .before .if2 .left)) (told _ _ _ (c .before .before .before .before .before .before .before .eight .ensures) (c .before .before .before .before .before .before .if3 .left)) (told _ _ _ (c .before .before .before .before .before .nine .ensures) (c .before .before .before .before .if4 .left)) (told _ _ _ (c .before .before .before .ten .ensures) (c .before .before .if5 .left)) (told _ _ _ (c .before .eleven .ensures) (c .if6 .taken))
+returns-6 c = verdict-is-11 _ _ _ _ _ (told _ _ _ (c .before .before .before .before .before .before .before .before .before .before .before .before .before .before .before .before .before .before .before .six .ensures) (c .before .before .before .before .before .before .before .before .before .before .before .before .before .before .before .before .before .before .if1 .left)) (told _ _ _ (c .before .before .before .before .before .before .before .before .before .before .before .before .before .before .before .before .before .seven .ensures) (c .before .before .before .before .before .before .before .before .before .before .before .before .before .before .before .before .if2 .left)) (told _ _ _ (c .before .before .before .before .before .before .before .before .before .before .before .eight .ensures) (c .before .before .before .before .before .before .before .before .before .before .if3 .left)) (told _ _ _ (c .before .before .before .before .before .before .before .nine .ensures) (c .before .before .before .before .before .before .if4 .left)) (told _ _ _ (c .before .before .before .ten .ensures) (c .before .before .if5 .left)) (told _ _ _ (c .before .eleven .ensures) (c .if6 .taken))
 
 returns-7 : tie.Need-returns-7
-returns-7 c = verdict-is-0 _ _ _ _ _ (told _ _ _ (c .before .before .before .before .before .before .before .before .before .before .before .six .ensures) (c .before .before .before .before .before .before .before .before .before .before .if1 .left)) (told _ _ _ (c .before .before .before .before .before .before .before .before .before .seven .ensures) (c .before .before .before .before .before .before .before .before .if2 .left)) (told _ _ _ (c .before .before .before .before .before .before .before .eight .ensures) (c .before .before .before .before .before .before .if3 .left)) (told _ _ _ (c .before .before .before .before .before .nine .ensures) (c .before .before .before .before .if4 .left)) (told _ _ _ (c .before .before .before .ten .ensures) (c .before .before .if5 .left)) (told _ _ _ (c .before .eleven .ensures) (c .if6 .left))
+returns-7 c = verdict-is-0 _ _ _ _ _ (told _ _ _ (c .before .before .before .before .before .before .before .before .before .before .before .before .before .before .before .before .before .before .before .six .ensures) (c .before .before .before .before .before .before .before .before .before .before .before .before .before .before .before .before .before .before .if1 .left)) (told _ _ _ (c .before .before .before .before .before .before .before .before .before .before .before .before .before .before .before .before .before .seven .ensures) (c .before .before .before .before .before .before .before .before .before .before .before .before .before .before .before .before .if2 .left)) (told _ _ _ (c .before .before .before .before .before .before .before .before .before .before .before .eight .ensures) (c .before .before .before .before .before .before .before .before .before .before .if3 .left)) (told _ _ _ (c .before .before .before .before .before .before .before .nine .ensures) (c .before .before .before .before .before .before .if4 .left)) (told _ _ _ (c .before .before .before .ten .ensures) (c .before .before .if5 .left)) (told _ _ _ (c .before .eleven .ensures) (c .if6 .left))
 
 pub verdict-spec : {M : Type 1} → statement M
 verdict-spec =
@@ -54,6 +60,8 @@ verdict-spec =
     returns
     seven-requires
     returns-2
+    arcs-out-requires
+    arcs-out-requires-2
     eight-requires
     returns-3
     nine-requires

@@ -21,10 +21,10 @@ returns : tie.Need-returns
 returns c = ways-plain _ _ _ _ _ _ (c .before .before .before .pre .1 .1) (search needs) _ (c .before .wide .ensures) (c .if1 .taken)
 
 mark-way-requires : tie.Need-mark-way-requires
-mark-way-requires c κs = ((search needs, search needs, second-in _ _ _ _ _ _ (c .before .before .before .pre .1 .0) (search needs) (c .before .wide .ensures), c .before .before .before .pre .1 .1 .long), c .before .before .before .pre .1 .0)
+mark-way-requires c κs = let s = c .before .before .before .before in ((search needs, search needs, second-in _ _ _ _ _ _ (s .pre .1 .0) (search needs) (c .before .before .wide .ensures), s .pre .1 .1 .long), s .pre .1 .0)
 
 returns-2 : tie.Need-returns-2
-returns-2 c = ways-more _ _ _ _ _ _ (c .before .before .before .before .pre .1 .1) (search needs) _ _ (c .before .before .wide .ensures) (c .before .if1 .left) (c .mark-way .ensures)
+returns-2 c = ways-more _ _ _ _ _ _ (c .before .before .before .before .before .pre .1 .1) (search needs) _ _ (c .before .before .before .wide .ensures) (c .before .before .if1 .left) (c .mark-way .ensures)
 
 pub mark-next-spec : {M : Type 1} → statement M
 mark-next-spec =

@@ -9,10 +9,10 @@ use Rattle.network.proofs.climbs.mark_way.Statement.{statement}
 use Rattle.network.proofs.climbs.mark_way.Tie as tie
 
 abbrev Inv-loop : tie.InvT-loop
-Inv-loop n principal secondary stamp x y m₀ a₀ b₀ m a b = (a ≤ n) × (b ≤ n) × OnWay (networkOf n principal secondary stamp) m₀ x y m a b
+Inv-loop n principal secondary stamp marks₀ x y a₀ b₀ marks a b = (a ≤ n) × (b ≤ n) × OnWay (networkOf n principal secondary stamp) marks₀ x y marks a b
 
 abbrev μ-loop : tie.MeasureT-loop
-μ-loop n principal secondary stamp x y m₀ a₀ b₀ m a b = height (networkOf n principal secondary stamp) a + height (networkOf n principal secondary stamp) b
+μ-loop n principal secondary stamp marks₀ x y a₀ b₀ marks a b = height (networkOf n principal secondary stamp) a + height (networkOf n principal secondary stamp) b
 
 loop-holds : tie.Need-loop-holds Inv-loop μ-loop
 loop-holds c = search (needs, way-start)
@@ -23,11 +23,11 @@ height-at-requires c κs = search needs
 height-at-requires-2 : tie.Need-height-at-requires-2 Inv-loop μ-loop
 height-at-requires-2 c κs = search needs
 
-mul-m : tie.Need-mul-m Inv-loop μ-loop
-mul-m c = search needs
+mul-marks : tie.Need-mul-marks Inv-loop μ-loop
+mul-marks c = search needs
 
-array-write-m : tie.Need-array-write-m Inv-loop μ-loop
-array-write-m c = search needs
+element-write-marks : tie.Need-element-write-marks Inv-loop μ-loop
+element-write-marks c = search needs
 
 mul-wide : tie.Need-mul-wide Inv-loop μ-loop
 mul-wide c = search needs
@@ -58,11 +58,11 @@ loop-again c =
     let l = c .before .before .if1 .taken in
     (i .0, in-right _ _ _ _ (s .pre .1) _ _ _ _ _ (i .0) (i .1) ha hb l d (c .wide .ensures), turn-right _ _ _ _ (s .pre .1) _ _ _ _ _ _ _ _ _ (i .2) (i .0) (i .1) ha hb l d (c .wide .ensures) (search needs))
 
-mul-m-2 : tie.Need-mul-m-2 Inv-loop μ-loop
-mul-m-2 c = search needs
+mul-marks-2 : tie.Need-mul-marks-2 Inv-loop μ-loop
+mul-marks-2 c = search needs
 
-array-write-m-2 : tie.Need-array-write-m-2 Inv-loop μ-loop
-array-write-m-2 c = search needs
+element-write-marks-2 : tie.Need-element-write-marks-2 Inv-loop μ-loop
+element-write-marks-2 c = search needs
 
 mul-wide-2 : tie.Need-mul-wide-2 Inv-loop μ-loop
 mul-wide-2 c = search needs
@@ -105,15 +105,15 @@ mark-way-spec =
     loop-holds
     height-at-requires
     height-at-requires-2
-    mul-m
-    array-write-m
+    mul-marks
+    element-write-marks
     mul-wide
     element-copy-out-wide
     wide-requires
     loop-less
     loop-again
-    mul-m-2
-    array-write-m-2
+    mul-marks-2
+    element-write-marks-2
     mul-wide-2
     element-copy-out-wide-2
     wide-requires-2

@@ -1,36 +1,50 @@
--- The table is filled from the front, each entry with the count of the entries that are its number.
+-- The pass counts each entry at its slot; the end clears slot 0, at which no node is counted.
 -- Assumes nothing.
-use Prim.Native.Nat.{_-_, _≤_}
-use mathlib.Core.Path.{_≡_}
+use Prim.Native.Nat.{_+_, _-_, _≤_}
+use native.Mathlib.Omega.{arith}
 use borrow.Author.Needs.{needs}
-use Rattle.finite.specs.Range.{children}
-use Rattle.finite.specs.Tables.{at, filled}
-use Rattle.finite.proofs.Tables.{fill-loop}
-use Rattle.network.specs.Tables.{zeros, table}
+use Rattle.finite.specs.Tables.{at}
+use Rattle.network.specs.Tables.{zeros, Counted}
+use Rattle.network.proofs.Histogram.{counted-start, counted-turn, counted-done}
 use Rattle.network.proofs.counts.arcs_out.Statement.{statement}
 use Rattle.network.proofs.counts.arcs_out.Tie as tie
 
 abbrev Inv-loop : tie.InvT-loop
-Inv-loop n parent out₀ v₀ out v = (v ≤ n) × (out ≡ filled v zeros (children n (at parent)))
+Inv-loop n parent out₀ v₀ out v = (v ≤ n) × Counted n (at parent) v out
 
 abbrev μ-loop : tie.MeasureT-loop
 μ-loop n parent out₀ v₀ out v = n - v
 
 loop-holds : tie.Need-loop-holds Inv-loop μ-loop
 unfolding zeros
-loop-holds c = search (needs, fill-loop)
+loop-holds c = (search needs, counted-start _ _)
 
 add-w : tie.Need-add-w Inv-loop μ-loop
 add-w c = search needs
 
-count-of-requires : tie.Need-count-of-requires Inv-loop μ-loop
-count-of-requires c κs = search needs
+mul-wide : tie.Need-mul-wide Inv-loop μ-loop
+mul-wide c = search needs
 
-cast-out : tie.Need-cast-out Inv-loop μ-loop
-cast-out c = search needs
+element-copy-out-wide : tie.Need-element-copy-out-wide Inv-loop μ-loop
+element-copy-out-wide c = search needs
+
+wide-requires : tie.Need-wide-requires Inv-loop μ-loop
+wide-requires c κs = search needs
+
+slot-requires : tie.Need-slot-requires Inv-loop μ-loop
+slot-requires c κs = search needs
 
 mul-out : tie.Need-mul-out Inv-loop μ-loop
 mul-out c = search needs
+
+array-read-out : tie.Need-array-read-out Inv-loop μ-loop
+array-read-out c = search needs
+
+add-out : tie.Need-add-out Inv-loop μ-loop
+add-out c = omega (arith, c .before .before .before .before .loop .inv .1 .small (c .slot .result))
+
+mul-out-2 : tie.Need-mul-out-2 Inv-loop μ-loop
+mul-out-2 c = search needs
 
 array-write-out : tie.Need-array-write-out Inv-loop μ-loop
 array-write-out c = search needs
@@ -39,11 +53,13 @@ loop-less : tie.Need-loop-less Inv-loop μ-loop
 loop-less c = search needs
 
 loop-again : tie.Need-loop-again Inv-loop μ-loop
-loop-again c = search (needs, fill-loop)
+loop-again c = (search needs, counted-turn _ _ _ _ _ _ (c .before .before .before .before .loop .inv .1) (c .before .before .before .before .before .pre) (c .slot .ensures .0) (c .before .wide .ensures))
+
+array-write-out-2 : tie.Need-array-write-out-2 Inv-loop μ-loop
+array-write-out-2 c = search needs
 
 returns : tie.Need-returns Inv-loop μ-loop
-unfolding table
-returns c = search (needs, fill-loop)
+returns c = counted-done _ _ _ _ (c .before .loop .inv .0) (search needs) (c .before .before .pre) (c .before .loop .inv .1)
 
 pub arcs-out-spec : {M : Type 1} → statement M
 arcs-out-spec =
@@ -53,10 +69,16 @@ arcs-out-spec =
     μ-loop
     loop-holds
     add-w
-    count-of-requires
-    cast-out
+    mul-wide
+    element-copy-out-wide
+    wide-requires
+    slot-requires
     mul-out
+    array-read-out
+    add-out
+    mul-out-2
     array-write-out
     loop-less
     loop-again
+    array-write-out-2
     returns)

@@ -11,10 +11,10 @@ use Rattle.network.proofs.shapes.eight.Statement.{statement}
 use Rattle.network.proofs.shapes.eight.Tie as tie
 
 abbrev Inv-loop : tie.InvT-loop
-Inv-loop n principal secondary v₀ v = (v ≤ n) × (some v (shapelessAt n principal secondary) ≡ false)
+Inv-loop n principal secondary principals secondaries v₀ v = (v ≤ n) × (some v (shapelessAt n principal secondary) ≡ false)
 
 abbrev μ-loop : tie.MeasureT-loop
-μ-loop n principal secondary v₀ v = n - v
+μ-loop n principal secondary principals secondaries v₀ v = n - v
 
 loop-holds : tie.Need-loop-holds Inv-loop μ-loop
 loop-holds c = search (needs, some-loop)

@@ -12,10 +12,10 @@ use Rattle.network.proofs.shapes.nine.Statement.{statement}
 use Rattle.network.proofs.shapes.nine.Tie as tie
 
 abbrev Inv-loop : tie.InvT-loop
-Inv-loop n principal secondary species v₀ v = (v ≤ n) × (some v (wrongSpeciesAt n principal secondary species) ≡ false)
+Inv-loop n principal secondary species principals secondaries v₀ v = (v ≤ n) × (some v (wrongSpeciesAt n principal secondary species) ≡ false)
 
 abbrev μ-loop : tie.MeasureT-loop
-μ-loop n principal secondary species v₀ v = n - v
+μ-loop n principal secondary species principals secondaries v₀ v = n - v
 
 loop-holds : tie.Need-loop-holds Inv-loop μ-loop
 loop-holds c = search (needs, some-loop)

@@ -11,10 +11,13 @@ use Rattle.network.proofs.shapes.ten.Statement.{statement}
 use Rattle.network.proofs.shapes.ten.Tie as tie
 
 abbrev Inv-loop : tie.InvT-loop
-Inv-loop n principal secondary v₀ v = (v ≤ n) × (some v (onlyReticulationsAt n principal secondary) ≡ false)
+Inv-loop n principal secondary principals secondaries plain v₀ v = (v ≤ n) × (some v (onlyReticulationsAt n principal secondary) ≡ false)
 
 abbrev μ-loop : tie.MeasureT-loop
-μ-loop n principal secondary v₀ v = n - v
+μ-loop n principal secondary principals secondaries plain v₀ v = n - v
+
+plain-arcs-requires : tie.Need-plain-arcs-requires Inv-loop μ-loop
+plain-arcs-requires c κs = search needs
 
 loop-holds : tie.Need-loop-holds Inv-loop μ-loop
 loop-holds c = search (needs, some-loop)
@@ -48,6 +51,7 @@ ten-spec =
     (tie.spec
     Inv-loop
     μ-loop
+    plain-arcs-requires
     loop-holds
     add-only-reticulations-at
     only-reticulations-at-requires
