@@ -8,7 +8,7 @@ use native.Mathlib.Numerals.{add-one}
 use native.Mathlib.Omega.{arith}
 use Rattle.finite.specs.Tests.{same}
 use Rattle.finite.specs.Range.{every, some, first}
-use Rattle.finite.proofs.Cases.{byBool, byEq, clash}
+use Rattle.finite.proofs.Cases.{byBool, byEq, byOrder, clash}
 use Rattle.finite.proofs.Tests.{is-same, same-is, not-same}
 
 -- from the test to each index, and back
@@ -91,6 +91,23 @@ first-low (suc k) f v l u = byEq (first k f) 0
     (λ q. byBool (f (suc k)) (λ t. let u₂ : v < suc k = rw (is-same q, t) at u in first-none k f q v l (omega arith))
     (λ t. let u₂ : v < 0 = rw (is-same q, t) at u in absurd (omega arith)))
     (λ q. first-low k f v l (rw (not-same q) at u))
+
+-- so it is the one that passes and that no lower one goes before; and none where none passes
+pub first-only : (n v : ℕ) (f : ℕ → Bool) → 1 ≤ v → v ≤ n → f v ≡ true → ((w : ℕ) → 1 ≤ w → w < v → f w ≡ false) → first n f ≡ v
+first-only n v f l u t low = byEq (first n f) 0
+    (λ z. clash t (first-none n f z v l u))
+    (λ d. let s = first-is n f d in byOrder (first n f) v
+    (λ g. clash (s .1) (low (first n f) (omega arith) g))
+    (λ e. e)
+    (λ g. clash t (first-low n f v l g)))
+
+pub first-nothing : (n : ℕ) (f : ℕ → Bool) → ((v : ℕ) → 1 ≤ v → v ≤ n → f v ≡ false) → first n f ≡ 0
+first-nothing n f none = byEq (first n f) 0 (λ e. e) (λ d. let s = first-is n f d in clash (s .1) (none (first n f) (omega arith) (s .0)))
+
+pub first-same : (n : ℕ) (f g : ℕ → Bool) → ((v : ℕ) → 1 ≤ v → v ≤ n → f v ≡ g v) → first n f ≡ first n g
+unfolding first
+first-same zero f g e = refl
+first-same (suc k) f g e = rw (e (suc k) (omega arith) (omega arith), first-same k f g (λ v l u. e v l (omega arith)))
 
 -- the turns of a loop that tests each of 1..n: r is the test at v + 1
 pub every-start : (f : ℕ → Bool) → every 0 f ≡ true

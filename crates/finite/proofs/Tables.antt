@@ -3,15 +3,15 @@
 use Prim.Native.Nat.{ℕ, zero, suc, _+_, _≤_, _<_}
 use mathlib.Core.Path.{_≡_, refl, sym, ap, _∙_, fun-ext}
 use mathlib.Core.List.{List}
-use lib.ListN.{length, getD, set, length-set}
+use lib.ListN.{length, getD, set, length-set, replicate, length-replicate, getD-replicate, List·getD-eq-default}
 use lib.Seq.{getD-set-same, getD-set-other, ext-getD}
 use mir.Val.{Fits}
 use mir.Syntax.{w32, w64}
 use native.Mathlib.Omega.{arith}
 use native.Mathlib.Numerals.{add-one}
 use Rattle.finite.specs.Tests.{under}
-use Rattle.finite.specs.Tables.{at, filled, within}
-use Rattle.finite.proofs.Cases.{byEq, byOrder}
+use Rattle.finite.specs.Tables.{at, zeros, filled, within}
+use Rattle.finite.proofs.Cases.{byEq, byOrder, byLess}
 use Rattle.finite.proofs.Tests.{is-under, not-under, and-no-r}
 
 pub length-filled : (k : ℕ) (l : List ℕ) (f : ℕ → ℕ) → length (filled k l f) ≡ length l
@@ -71,6 +71,22 @@ filled-within n l f b z = fun-ext (λ v. byEq v 0
     (λ d. byOrder n v (λ g. filled-out n l f v g ∙ z v ∙ sym (within-out n f v g))
     (λ q. filled-in n l f v (omega arith) (omega arith) b ∙ sym (within-in n f v (omega arith) (omega arith)))
     (λ g. filled-in n l f v (omega arith) (omega arith) b ∙ sym (within-in n f v (omega arith) (omega arith)))))
+
+-- a table without entries, and filled
+pub zeros-long : length zeros ≡ 128
+unfolding zeros
+zeros-long = length-replicate {A = ℕ} 128 0
+
+pub zeros-at : (v : ℕ) → at zeros v ≡ 0
+unfolding zeros
+zeros-at v = byLess v 128 (λ l. getD-replicate {A = ℕ} 128 v 0 0 l) (λ l. List·getD-eq-default (replicate 128 0) 0 {n = v} (omega (arith, length-replicate {A = ℕ} 128 0)))
+
+pub zeros-filled : (n : ℕ) (f : ℕ → ℕ) → n ≤ 127 → at (filled n zeros f) ≡ within n f
+zeros-filled n f l = filled-within n zeros f (omega (arith, zeros-long)) zeros-at
+
+-- the only table that holds f at 1..n, 0 at 0 and above n
+pub zeros-ext : (n : ℕ) (m : List ℕ) (f : ℕ → ℕ) → n ≤ 127 → length m ≡ 128 → ((v : ℕ) → 1 ≤ v → v ≤ n → at m v ≡ f v) → ((v : ℕ) → n < v → at m v ≡ 0) → at m 0 ≡ 0 → m ≡ filled n zeros f
+zeros-ext n m f few long inside outside none = filled-ext n zeros m f (omega (arith, zeros-long)) (long ∙ sym zeros-long) inside (λ v l. outside v l ∙ sym (zeros-at v)) (none ∙ sym (zeros-at 0))
 
 -- the turns of a loop that fills a table from the front
 pub filled-none : (l : List ℕ) (f : ℕ → ℕ) → l ≡ filled 0 l f

@@ -3,12 +3,16 @@
 use Prim.Native.Nat.{ℕ, zero, suc}
 use mathlib.Core.Bool.{_&&_, cond}
 use mathlib.Core.List.{List}
-use lib.ListN.{getD, set}
+use lib.ListN.{getD, set, replicate}
 use Rattle.finite.specs.Tests.{under}
 
 -- what a table holds for a number: 0 past its end
 abbrev pub at : List ℕ → ℕ → ℕ
 at l v = getD l v 0
+
+-- a table without entries
+unfoldable pub zeros : List ℕ
+zeros = replicate 128 0
 
 -- the table l with f 1 .. f k at the places 1 .. k
 unfoldable pub filled : ℕ → List ℕ → (ℕ → ℕ) → List ℕ

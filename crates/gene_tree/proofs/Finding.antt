@@ -6,9 +6,8 @@ use Prim.Native.Nat.{ℕ, _+_, _≤_, _<_}
 use native.Mathlib.Numerals.{add-one}
 use native.Mathlib.Omega.{arith}
 use Rattle.finite.specs.Range.{first}
-use Rattle.finite.proofs.Cases.{byEq, byOrder, clash}
 use Rattle.finite.proofs.Tests.{is-same}
-use Rattle.finite.proofs.Every.{first-is, first-none, first-low}
+use Rattle.finite.proofs.Every.{first-none, first-only}
 
 pub first-start : (f : ℕ → Bool) → first 0 f ≡ 0
 unfolding first
@@ -17,15 +16,6 @@ first-start f = refl
 pub first-turn : (f : ℕ → Bool) (v : ℕ) (r : Bool) → first v f ≡ 0 → r ≡ f (v + 1) → r ≡ false → first (v + 1) f ≡ 0
 unfolding first
 first-turn f v r h e t = let q : f (v + 1) ≡ false = sym e ∙ t in rw (add-one) (rw (← add-one, q, is-same h))
-
--- the lowest is the one that no lower one goes before
-pub first-only : (n v : ℕ) (f : ℕ → Bool) → 1 ≤ v → v ≤ n → f v ≡ true → ((w : ℕ) → 1 ≤ w → w < v → f w ≡ false) → first n f ≡ v
-first-only n v f l u t low = byEq (first n f) 0
-    (λ z. clash t (first-none n f z v l u))
-    (λ d. let s = first-is n f d in byOrder (first n f) v
-    (λ g. clash (s .1) (low (first n f) (omega arith) g))
-    (λ e. e)
-    (λ g. clash t (first-low n f v l g)))
 
 pub first-stop : (f : ℕ → Bool) (n v : ℕ) (r : Bool) → v < n → first v f ≡ 0 → r ≡ f (v + 1) → r ≡ true → v + 1 ≡ first n f
 first-stop f n v r l h e t =

@@ -9,18 +9,18 @@ use Prim.Native.Nat.{ℕ, _≤_, _<_}
 use native.Mathlib.Omega.{arith}
 use Rattle.finite.specs.Tests.{same, under, tally}
 use Rattle.finite.specs.Range.{count}
-use Rattle.finite.specs.Tables.{at, within, filled}
+use Rattle.finite.specs.Tables.{at, within}
 use Rattle.finite.proofs.Cases.{byEq, byLess, byOrder, clash}
 use Rattle.finite.proofs.Tests.{is-same, same-is, not-same, is-under, not-under, and-r, tally-imp}
 use Rattle.finite.proofs.Count.{count-less, count-is, count-one, count-zero, zero-count}
 use Rattle.finite.proofs.Sum.{sum-le}
 use Rattle.finite.proofs.Every.{first-low}
-use Rattle.finite.proofs.Tables.{within-in, within-zero, within-out, filled-within}
+use Rattle.finite.proofs.Tables.{within-in, within-zero, within-out}
+pub use Rattle.finite.proofs.Tables.{zeros-long, zeros-at, zeros-filled}
 use Rattle.topology.specs.Networks.{Network}
 use Rattle.reconciliation.specs.GeneTrees.{GeneTree, Rooted, Seated}
 use Rattle.gene_tree.specs.Refusals.{isNext, next, isChild, childCount, geneFits, treeFits, geneVerdict}
-use lib.ListN.{length, replicate, length-replicate, getD-replicate, List·getD-eq-default}
-use Rattle.gene_tree.specs.Genes.{zeros, leftOf, rightOf, leafOf, geneTreeOf, leftTable, rightTable, leafTable}
+use Rattle.gene_tree.specs.Genes.{leftOf, rightOf, leafOf, geneTreeOf, leftTable, rightTable, leafTable}
 use Rattle.gene_tree.proofs.Refusals.{next-in, next-more, next-entry, next-none, gene-first, gene-some, gene-below, gene-two, tree-gene, bearer-in, seat-leaf, accept-tree, accept-seats}
 
 -- what `within` gives at a number where it is not 0
@@ -233,17 +233,6 @@ module _ (n m : ℕ) (parent species borne : List ℕ) (some : 1 ≤ m) (ok : ge
   }
 
 -- the tables hold the gene tree's functions
-pub zeros-long : length zeros ≡ 128
-unfolding zeros
-zeros-long = length-replicate {A = ℕ} 128 0
-
-pub zeros-at : (v : ℕ) → at zeros v ≡ 0
-unfolding zeros
-zeros-at v = byLess v 128 (λ l. getD-replicate {A = ℕ} 128 v 0 0 l) (λ l. List·getD-eq-default (replicate 128 0) 0 {n = v} (omega (arith, length-replicate {A = ℕ} 128 0)))
-
-pub zeros-filled : (m : ℕ) (f : ℕ → ℕ) → m ≤ 127 → at (filled m zeros f) ≡ within m f
-zeros-filled m f l = filled-within m zeros f (omega (arith, zeros-long)) zeros-at
-
 module _ (n m : ℕ) (parent species borne : List ℕ) (few : m ≤ 127) where
   pub left-held : at (leftTable m parent) ≡ geneTreeOf n m parent species borne .left
   unfolding leftTable geneTreeOf

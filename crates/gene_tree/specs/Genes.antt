@@ -2,14 +2,10 @@
 -- Assumes nothing.
 use mathlib.Core.List.{List}
 use Prim.Native.Nat.{ℕ}
-use lib.ListN.{replicate}
 use Rattle.finite.specs.Tables.{at, filled, within}
+unfoldable pub use Rattle.finite.specs.Tables.{zeros}
 use Rattle.reconciliation.specs.GeneTrees.{GeneTree}
 use Rattle.gene_tree.specs.Refusals.{next, bearer}
-
--- a table without entries
-unfoldable pub zeros : List ℕ
-zeros = replicate 128 0
 
 -- a gene's lowest-numbered child, the lowest-numbered after that, and the node that bears its species; 0 for none
 unfoldable pub leftOf : ℕ → List ℕ → ℕ → ℕ

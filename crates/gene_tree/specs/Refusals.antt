@@ -7,16 +7,9 @@ use mathlib.Core.Bool.{Bool, cond, _&&_, _||_, not}
 use mathlib.Core.List.{List}
 use Prim.Native.Nat.{ℕ, _≤_}
 use Rattle.finite.specs.Tests.{same, under}
-use Rattle.finite.specs.Range.{count, every, first}
+use Rattle.finite.specs.Range.{count, every}
 use Rattle.finite.specs.Tables.{at}
-
--- v is above a and its entry is x
-unfoldable pub isNext : List ℕ → ℕ → ℕ → ℕ → Bool
-isNext l a x v = under a v && same (at l v) x
-
--- the lowest of 1..n above a whose entry is x, 0 where there is none
-unfoldable pub next : ℕ → List ℕ → ℕ → ℕ → ℕ
-next n l a x = first n (isNext l a x)
+unfoldable pub use Rattle.tables.specs.Children.{isNext, next}
 
 -- x is a child of gene g
 unfoldable pub isChild : List ℕ → ℕ → ℕ → Bool

@@ -6,14 +6,13 @@ use mathlib.Core.Logic.{_≢_}
 use mathlib.Core.List.{List}
 use Prim.Native.Nat.{ℕ, suc, _≤_, _<_}
 use native.Mathlib.Omega.{arith}
-use lib.ListN.{length, length-replicate}
 use Rattle.finite.specs.Tests.{under}
 use Rattle.finite.specs.Range.{count}
 use Rattle.finite.specs.Tables.{at}
 use Rattle.finite.proofs.Cases.{byEq, byLess}
 use Rattle.finite.proofs.Tests.{and-no-r, is-same, not-same, is-under, not-under, under-is}
 use Rattle.finite.proofs.Count.{count-less, count-le}
-use Rattle.finite.proofs.Tables.{filled-in, within-in}
+use Rattle.finite.proofs.Tables.{zeros-long, filled-in, within-in}
 use Rattle.topology.specs.Networks.{Node}
 use Rattle.topology.specs.Tables.{networkOf, rankFrom}
 use Rattle.histories.specs.Histories.{leaf, tip, pair, Family}
@@ -26,10 +25,6 @@ use Rattle.histories.proofs.Filling.{out-in, gene-in}
 use Rattle.histories.proofs.Children.{child-is}
 use Rattle.histories.proofs.Orders.{schedule-of}
 use Rattle.histories.proofs.Sizes.{size, size-low, size-le, size-splits, left-more, right-more}
-
-pub zeros-long : length zeros ≡ 128
-unfolding zeros
-zeros-long = length-replicate {A = ℕ} 128 0
 
 -- what the tables of children hold
 module _ (n : ℕ) (few : n ≤ 127) (v : ℕ) (lv : 1 ≤ v) (uv : v ≤ n) where

@@ -6,25 +6,11 @@ use mathlib.Core.Logic.{_⊎_}
 use mathlib.Core.Bool.{cond, _&&_}
 use mathlib.Core.List.{List}
 use Prim.Native.Nat.{ℕ, suc}
-use lib.ListN.{replicate}
 use Rattle.finite.specs.Tests.{same, under}
-use Rattle.finite.specs.Range.{first}
-use Rattle.finite.specs.Tables.{at, filled}
+use Rattle.finite.specs.Tables.{at}
+unfoldable pub use Rattle.finite.specs.Tables.{zeros}
+unfoldable pub use Rattle.tables.specs.Children.{isNext, next as childAfter, firstChildren, secondChildren}
 use Rattle.histories.specs.Histories.{Out, leaf, one, two, mixed, Gene, tip, pair, Family}
-
--- the lowest node above u whose parent is v, 0 where there is none
-unfoldable pub childAfter : (n : ℕ) (parents : List ℕ) → ℕ → ℕ → ℕ
-childAfter n parents u v = first n (λ w. under u w && same (at parents w) v)
-
-unfoldable pub zeros : List ℕ
-zeros = replicate 128 0
-
--- each node's first child, and its second
-unfoldable pub firstChildren : (n : ℕ) (parents : List ℕ) → List ℕ
-firstChildren n parents = filled n zeros (λ v. childAfter n parents 0 v)
-
-unfoldable pub secondChildren : (n : ℕ) (parents first : List ℕ) → List ℕ
-secondChildren n parents first = filled n zeros (λ v. childAfter n parents (at first v) v)
 
 -- the arcs out of a node of species s with the principal children x and y and the secondary child z, 0 for none
 unfoldable pub outBy : (x y z s : ℕ) → Out
@@ -73,5 +59,5 @@ SecondaryEnd (mixed a b) x = x ≡ b
 
 -- whoever unfolds this unfolds all of this file
 unfoldable pub open-Families : Unit {0}
-unfolding childAfter zeros firstChildren secondChildren outBy geneBy outFrom geneFrom familyFrom familyOf
+unfolding isNext childAfter zeros firstChildren secondChildren outBy geneBy outFrom geneFrom familyFrom familyOf
 open-Families = tt

@@ -1,6 +1,5 @@
 // The network as a whole: the least cost over all histories, for each gene and starting node.
 ghost use mathlib.Core.Path.{_≡_};
-ghost use mathlib.Core.Logic.{_≢_};
 ghost use Prim.Native.Nat.{ℕ, _+_, _-_, _*_, _≤_, _<_};
 ghost use lib.ListN.{length};
 ghost use Rattle.finite.specs.Tables.{at};
@@ -10,7 +9,7 @@ ghost use Rattle.histories.specs.Histories.{_⊓_, then, both, resting, parting
 ghost use Rattle.histories.specs.Words.{costOf, row, Small, Cell, Readable, Descendants, Rows, Kept};
 ghost use Rattle.histories.specs.Grades.{Prepared};
 ghost use Rattle.histories.specs.Orders.{ranksOf, earlier, placeOf, Placed};
-ghost use Rattle.histories.specs.Families.{outBy, geneBy, childAfter, firstChildren, secondChildren, familyOf};
+ghost use Rattle.histories.specs.Families.{outBy, geneBy, familyOf};
 ghost use Rattle.histories.specs.Accepted.{Accepted};
 ghost use Rattle.histories.specs.Promise.{WholeNetwork};
 ghost use Rattle.whole_network.specs.Headers.{familyIn};
@@ -374,51 +373,6 @@ fn least_start(n: usize, scratch: &[u32]) -> u32
     r
 }
 
-// The lowest node above u whose parent is v, 0 where there is none.
-fn child_after(n: usize, parents: &[u32; 128], u: usize, v: usize) -> u32
-    requires { ⌜ n ≤ 127 ⌝ }
-    ensures { λ r. ⌜ r ≡ childAfter n (now (parents .entry)) u v ⌝ }
-{
-    let mut w = u;
-    while w < n {
-        w += 1;
-        if wide(parents[w]) == v {
-            return w as u32;
-        }
-    }
-    0
-}
-
-// Each node's first child.
-fn first_children(n: usize, parents: &[u32; 128]) -> [u32; 128]
-    requires { ⌜ n ≤ 127 ⌝ }
-    ensures { λ r. ⌜ r ≡ firstChildren n (now (parents .entry)) ⌝ }
-{
-    let mut out = [0u32; 128];
-    let mut v: usize = 0;
-    while v < n {
-        let w = v + 1;
-        out[w] = child_after(n, parents, 0, w);
-        v = w;
-    }
-    out
-}
-
-// Each node's second child, given the first.
-fn second_children(n: usize, parents: &[u32; 128], first: &[u32; 128]) -> [u32; 128]
-    requires { ⌜ n ≤ 127 ⌝ }
-    ensures { λ r. ⌜ r ≡ secondChildren n (now (parents .entry)) (now (first .entry)) ⌝ }
-{
-    let mut out = [0u32; 128];
-    let mut v: usize = 0;
-    while v < n {
-        let w = v + 1;
-        out[w] = child_after(n, parents, wide(first[w]), w);
-        v = w;
-    }
-    out
-}
-
 // The rank of a node by its secondary parent and its stamp: it rises along every arc.
 fn rank_from(secondary: u32, stamp: u32) -> u32
     requires { ⌜ stamp < 1000000 ⌝ }
@@ -511,9 +465,9 @@ pub fn fill(
     let n = h.nodes;
     let rank = ranks(n, secondary, stamp);
     let order = order_of(n, &rank);
-    let first = first_children(n, principal);
-    let second = second_children(n, principal, &first);
-    let other = first_children(n, secondary);
+    let first = tables::first_children(n, principal);
+    let second = tables::second_children(n, principal, &first);
+    let other = tables::first_children(n, secondary);
     fill_rows(
         h,
         &order,

@@ -1,17 +1,13 @@
--- `gene_tree::is_next` meets its contract. Both tests are read off the branches.
+-- `gene_tree::is_next` meets its contract. Every number of 1 to n is above 0, so the entry settles the test.
 -- Assumes nothing.
 use native.Mathlib.Omega.{arith}
-use Rattle.finite.proofs.Tests.{is-under, told-same, told-other}
-use mathlib.Core.Path.{sym}
-use Rattle.finite.proofs.Tests.{test-laws}
+use mathlib.Core.Path.{refl}
+use Rattle.finite.specs.Tests.{same}
+use Rattle.finite.proofs.Tests.{is-under}
 use Rattle.gene_tree.specs.Refusals.{isNext}
 use borrow.Author.Needs.{needs}
 use Rattle.gene_tree.proofs.is_next.Statement.{statement}
 use Rattle.gene_tree.proofs.is_next.Tie as tie
-
-returns : tie.Need-returns
-unfolding isNext
-returns c = sym (search (needs, test-laws) depth 9)
 
 mul-wide : tie.Need-mul-wide
 mul-wide c = search needs
@@ -22,18 +18,9 @@ element-copy-out-wide c = search needs
 wide-requires : tie.Need-wide-requires
 wide-requires c κs = search needs
 
-returns-2 : tie.Need-returns-2
-unfolding isNext
-returns-2 c =
-    let a = c .before .before .before .before .args in
-    rw (is-under {m = a .a} {n = a .v} (omega arith), told-other _ _ _ (c .before .wide .ensures) (c .if2 .taken))
-
-returns-3 : tie.Need-returns-3
-unfolding isNext
-returns-3 c =
-    let a = c .before .before .before .before .args in
-    rw (is-under {m = a .a} {n = a .v} (omega arith), told-same _ _ _ (c .before .wide .ensures) (c .if2 .left))
+returns : tie.Need-returns
+unfolding isNext same
+returns c = rw (is-under {m = 0} {n = c .before .before .args .v} (omega arith), ← c .wide .ensures)
 
 pub is-next-spec : {M : Type 1} → statement M
-is-next-spec =
-    tie.close (tie.spec returns mul-wide element-copy-out-wide wide-requires returns-2 returns-3)
+is-next-spec = tie.close (tie.spec mul-wide element-copy-out-wide wide-requires returns)

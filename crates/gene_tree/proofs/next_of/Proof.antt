@@ -10,10 +10,10 @@ use Rattle.gene_tree.proofs.next_of.Statement.{statement}
 use Rattle.gene_tree.proofs.next_of.Tie as tie
 
 abbrev Inv-loop : tie.InvT-loop
-Inv-loop n l a x v₀ v = (v ≤ n) × (first v (isNext l a x) ≡ 0)
+Inv-loop n l x v₀ v = (v ≤ n) × (first v (isNext l 0 x) ≡ 0)
 
 abbrev μ-loop : tie.MeasureT-loop
-μ-loop n l a x v₀ v = n - v
+μ-loop n l x v₀ v = n - v
 
 loop-holds : tie.Need-loop-holds Inv-loop μ-loop
 loop-holds c = search (needs, first-loop)

@@ -1,57 +1,18 @@
--- `gene_tree::right_children` meets its contract. The invariant: the entries passed are filled.
+-- `gene_tree::right_children` meets its contract. The table of the lowest children above the left ones is the definition.
 -- Assumes nothing.
-use Prim.Native.Nat.{_-_, _≤_}
-use mathlib.Core.Path.{_≡_}
-use Rattle.finite.specs.Tables.{filled}
-use Rattle.finite.proofs.Tables.{fill-loop}
-use Rattle.gene_tree.specs.Genes.{zeros, rightOf, rightTable}
+use Rattle.gene_tree.proofs.Tables.{right-is}
 use borrow.Author.Needs.{needs}
 use Rattle.gene_tree.proofs.right_children.Statement.{statement}
 use Rattle.gene_tree.proofs.right_children.Tie as tie
 
-abbrev Inv-loop : tie.InvT-loop
-Inv-loop m parent out₀ g₀ out g = (g ≤ m) × (out ≡ filled g zeros (rightOf m parent))
+first-children-requires : tie.Need-first-children-requires
+first-children-requires c κs = search needs
 
-abbrev μ-loop : tie.MeasureT-loop
-μ-loop m parent out₀ g₀ out g = m - g
+second-children-requires : tie.Need-second-children-requires
+second-children-requires c κs = search needs
 
-loop-holds : tie.Need-loop-holds Inv-loop μ-loop
-unfolding zeros
-loop-holds c = search (needs, fill-loop)
-
-add-w : tie.Need-add-w Inv-loop μ-loop
-add-w c = search needs
-
-right-of-requires : tie.Need-right-of-requires Inv-loop μ-loop
-right-of-requires c κs = search needs
-
-mul-out : tie.Need-mul-out Inv-loop μ-loop
-mul-out c = search needs
-
-array-write-out : tie.Need-array-write-out Inv-loop μ-loop
-array-write-out c = search needs
-
-loop-less : tie.Need-loop-less Inv-loop μ-loop
-loop-less c = search needs
-
-loop-again : tie.Need-loop-again Inv-loop μ-loop
-loop-again c = search (needs, fill-loop)
-
-returns : tie.Need-returns Inv-loop μ-loop
-unfolding rightTable
-returns c = search (needs, fill-loop)
+returns : tie.Need-returns
+returns c = search (needs, right-is)
 
 pub right-children-spec : {M : Type 1} → statement M
-right-children-spec =
-    tie.close
-    (tie.spec
-    Inv-loop
-    μ-loop
-    loop-holds
-    add-w
-    right-of-requires
-    mul-out
-    array-write-out
-    loop-less
-    loop-again
-    returns)
+right-children-spec = tie.close (tie.spec first-children-requires second-children-requires returns)

@@ -6,37 +6,53 @@ use mathlib.Core.Bool.{true}
 use Rattle.finite.specs.Range.{every}
 use Rattle.finite.proofs.Every.{every-loop}
 use Rattle.gene_tree.specs.Refusals.{seatFits, seatsFit}
+use Rattle.gene_tree.proofs.Tables.{seat-at}
 use borrow.Author.Needs.{needs}
 use Rattle.gene_tree.proofs.seats_fit.Statement.{statement}
 use Rattle.gene_tree.proofs.seats_fit.Tie as tie
 
 abbrev Inv-loop : tie.InvT-loop
-Inv-loop n m parent species borne g₀ g = (g ≤ m) × (every g (seatFits n m parent species borne) ≡ true)
+Inv-loop n m parent counts species borne g₀ g = (g ≤ m) × (every g (seatFits n m parent species borne) ≡ true)
 
 abbrev μ-loop : tie.MeasureT-loop
-μ-loop n m parent species borne g₀ g = m - g
+μ-loop n m parent counts species borne g₀ g = m - g
 
 loop-holds : tie.Need-loop-holds Inv-loop μ-loop
 loop-holds c = search (needs, every-loop)
 
-add-seat-fits : tie.Need-add-seat-fits Inv-loop μ-loop
-add-seat-fits c = search needs
+add-w : tie.Need-add-w Inv-loop μ-loop
+add-w c = search needs
 
-seat-fits-requires : tie.Need-seat-fits-requires Inv-loop μ-loop
-seat-fits-requires c κs = search needs
+mul-wide : tie.Need-mul-wide Inv-loop μ-loop
+mul-wide c = search needs
+
+element-copy-out-wide : tie.Need-element-copy-out-wide Inv-loop μ-loop
+element-copy-out-wide c = search needs
+
+wide-requires : tie.Need-wide-requires Inv-loop μ-loop
+wide-requires c κs = search needs
+
+mul-wide-2 : tie.Need-mul-wide-2 Inv-loop μ-loop
+mul-wide-2 c = search needs
+
+element-copy-out-wide-2 : tie.Need-element-copy-out-wide-2 Inv-loop μ-loop
+element-copy-out-wide-2 c = search needs
+
+wide-requires-2 : tie.Need-wide-requires-2 Inv-loop μ-loop
+wide-requires-2 c κs = search needs
+
+species-fits-requires : tie.Need-species-fits-requires Inv-loop μ-loop
+species-fits-requires c κs = search needs
 
 returns : tie.Need-returns Inv-loop μ-loop
 unfolding seatsFit
-returns c = search (needs, every-loop)
-
-add-g : tie.Need-add-g Inv-loop μ-loop
-add-g c = search needs
+returns c = search (needs, every-loop, seat-at)
 
 loop-less : tie.Need-loop-less Inv-loop μ-loop
 loop-less c = search needs
 
 loop-again : tie.Need-loop-again Inv-loop μ-loop
-loop-again c = search (needs, every-loop)
+loop-again c = search (needs, every-loop, seat-at)
 
 returns-2 : tie.Need-returns-2 Inv-loop μ-loop
 unfolding seatsFit
@@ -49,10 +65,15 @@ seats-fit-spec =
     Inv-loop
     μ-loop
     loop-holds
-    add-seat-fits
-    seat-fits-requires
+    add-w
+    mul-wide
+    element-copy-out-wide
+    wide-requires
+    mul-wide-2
+    element-copy-out-wide-2
+    wide-requires-2
+    species-fits-requires
     returns
-    add-g
     loop-less
     loop-again
     returns-2)

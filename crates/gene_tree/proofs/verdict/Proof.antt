@@ -6,6 +6,9 @@ use borrow.Author.Needs.{needs}
 use Rattle.gene_tree.proofs.verdict.Statement.{statement}
 use Rattle.gene_tree.proofs.verdict.Tie as tie
 
+child-counts-requires : tie.Need-child-counts-requires
+child-counts-requires c κs = search needs
+
 tree-fits-requires : tie.Need-tree-fits-requires
 tree-fits-requires c κs = search needs
 
@@ -18,12 +21,19 @@ seats-fit-requires c κs = search needs
 
 returns-2 : tie.Need-returns-2
 unfolding geneVerdict
-returns-2 c = rw (told-not-yes _ _ (c .before .before .before .tree-fits .ensures) (c .before .before .if1 .left), told-not-no _ _ (c .before .seats-fit .ensures) (c .if2 .taken))
+returns-2 c = rw (told-not-yes _ _ (c .before .before .before .before .tree-fits .ensures) (c .before .before .before .if1 .left), told-not-no _ _ (c .before .seats-fit .ensures) (c .if2 .taken))
 
 returns-3 : tie.Need-returns-3
 unfolding geneVerdict
-returns-3 c = rw (told-not-yes _ _ (c .before .before .before .tree-fits .ensures) (c .before .before .if1 .left), told-not-yes _ _ (c .before .seats-fit .ensures) (c .if2 .left))
+returns-3 c = rw (told-not-yes _ _ (c .before .before .before .before .tree-fits .ensures) (c .before .before .before .if1 .left), told-not-yes _ _ (c .before .seats-fit .ensures) (c .if2 .left))
 
 pub verdict-spec : {M : Type 1} → statement M
 verdict-spec =
-    tie.close (tie.spec tree-fits-requires returns seats-fit-requires returns-2 returns-3)
+    tie.close
+    (tie.spec
+    child-counts-requires
+    tree-fits-requires
+    returns
+    seats-fit-requires
+    returns-2
+    returns-3)

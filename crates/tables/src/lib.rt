@@ -1,0 +1,77 @@
+// Tables of a table of parents, each in one pass: the lowest child of each number, the next one, and how many it has. Entry v is about v of 1 to n;
+// any entries will do, for what is no number of 1 to n has no children.
+ghost use mathlib.Core.Path.{_≡_};
+ghost use Prim.Native.Nat.{_≤_};
+ghost use Rattle.tables.specs.Children.{firstChildren, secondChildren, childCounts, inside, insideAfter};
+
+fn wide(x: u32) -> usize
+    ensures { λ r. ⌜ r ≡ x ⌝ }
+{
+    x as usize
+}
+
+// The parent p where it is one of 1 to n, else 0: entry 0 takes what no other entry does, and is cleared at the end.
+fn slot(n: usize, p: usize) -> usize
+    ensures { λ r. ⌜ (r ≡ inside n p) × (r ≤ n) ⌝ }
+{
+    if n < p {
+        return 0;
+    }
+    p
+}
+
+// The same where child w is above the entry of p, else 0.
+fn slot_after(n: usize, after: &[u32; 128], p: usize, w: usize) -> usize
+    requires { ⌜ n ≤ 127 ⌝ }
+    ensures { λ r. ⌜ (r ≡ insideAfter n (now (after .entry)) p w) × (r ≤ n) ⌝ }
+{
+    let q = slot(n, p);
+    if w <= wide(after[q]) {
+        return 0;
+    }
+    q
+}
+
+// The lowest child of each that is above its entry in `after`, 0 where there is none: from the highest child down, the last one written is the lowest.
+pub fn second_children(n: usize, parents: &[u32; 128], after: &[u32; 128]) -> [u32; 128]
+    requires { ⌜ n ≤ 127 ⌝ }
+    ensures { λ r. ⌜ r ≡ secondChildren n (now (parents .entry)) (now (after .entry)) ⌝ }
+{
+    let mut out = [0u32; 128];
+    let mut w = n;
+    while 0 < w {
+        let p = wide(parents[w]);
+        let q = slot_after(n, after, p, w);
+        out[q] = w as u32;
+        w -= 1;
+    }
+    out[0] = 0;
+    out
+}
+
+// The lowest child of each, 0 where there is none.
+pub fn first_children(n: usize, parents: &[u32; 128]) -> [u32; 128]
+    requires { ⌜ n ≤ 127 ⌝ }
+    ensures { λ r. ⌜ r ≡ firstChildren n (now (parents .entry)) ⌝ }
+{
+    let none = [0u32; 128];
+    second_children(n, parents, &none)
+}
+
+// How many children each has.
+pub fn child_counts(n: usize, parents: &[u32; 128]) -> [u32; 128]
+    requires { ⌜ n ≤ 127 ⌝ }
+    ensures { λ r. ⌜ r ≡ childCounts n (now (parents .entry)) ⌝ }
+{
+    let mut out = [0u32; 128];
+    let mut v: usize = 0;
+    while v < n {
+        let w = v + 1;
+        let p = wide(parents[w]);
+        let q = slot(n, p);
+        out[q] = out[q] + 1;
+        v = w;
+    }
+    out[0] = 0;
+    out
+}
