@@ -13,9 +13,9 @@ use Rattle.finite.proofs.Cases.{clash}
 use Rattle.finite.proofs.Tests.{and-l, and-r, and-yes, is-same, same-is, is-under, under-is}
 use Rattle.finite.proofs.Every.{first-is, first-none, first-low}
 use Rattle.histories.specs.Histories.{Cost, _⊓_, leastOver}
-use Rattle.histories.specs.Words.{noHistory, costOf, cell, row}
+use Rattle.histories.specs.Words.{noHistory, costOf, costIn, cell, row}
 use Rattle.histories.specs.Families.{isNext, childAfter}
-use Rattle.histories.proofs.Words.{cost-none}
+use Rattle.histories.proofs.Words.{sum-none, sum-word}
 
 module _ (n : ℕ) (parents : List ℕ) (u v : ℕ) where
   -- what it finds
@@ -34,18 +34,18 @@ module _ (n : ℕ) (parents : List ℕ) (u v : ℕ) where
   child-low w l h q = clash (and-yes (under u w) (same (at parents w) v) (is-under l) (is-same q)) (first-low n (isNext parents u v) w (omega arith) h)
 
 -- the turns of a loop that takes the least of gene 1's row
-pub over-start : (f : ℕ → Cost) → costOf noHistory ≡ leastOver 0 f
+pub over-start : (f : ℕ → Cost) (w : ℕ) → w ≡ noHistory → costIn w ≡ leastOver 0 f
 unfolding leastOver
-over-start f = cost-none {w = noHistory} refl
+over-start f w e = sum-none (omega arith)
 
-pub over-turn : (n : ℕ) (s : List ℕ) (v r q : ℕ) → costOf r ≡ leastOver v (row n s 1) → costOf q ≡ (costOf r ⊓ costOf (getD s v 0)) → costOf q ≡ leastOver (v + 1) (row n s 1)
+pub over-turn : (n : ℕ) (s : List ℕ) (v r w q : ℕ) → costIn r ≡ leastOver v (row n s 1) → w ≡ getD s v 0 → w ≤ noHistory → costIn q ≡ (costIn r ⊓ costIn w) → costIn q ≡ leastOver (v + 1) (row n s 1)
 unfolding leastOver row cell
-over-turn n s v r q e f = rw add-one (f ∙ rw (e, at-one))
+over-turn n s v r w q e ew l f = rw add-one (f ∙ rw (e, sum-word w l, ew, at-one))
   where
     at-one : getD s v 0 ≡ getD s ((1 - 1) * n + (suc v - 1)) 0
     at-one = ap (λ x. getD s x 0) (omega arith)
 
-pub over-done : (n : ℕ) (f : ℕ → Cost) (v r : ℕ) → v ≤ n → n ≤ v → costOf r ≡ leastOver v f → costOf r ≡ leastOver n f
-over-done n f v r a b h = let e : v ≡ n = omega arith in rw e at h
+pub over-done : (n : ℕ) (f : ℕ → Cost) (v r w : ℕ) → v ≤ n → n ≤ v → costIn r ≡ leastOver v f → costOf w ≡ costIn r → costOf w ≡ leastOver n f
+over-done n f v r w a b h q = let e : v ≡ n = omega arith in q ∙ rw e at h
 
 pub ruleset over-loop = (over-start, over-turn, over-done)

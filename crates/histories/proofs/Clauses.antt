@@ -1,16 +1,16 @@
 -- The clauses on tables of children: what leaves a node by its first, second and secondary child, and each clause in each of these cases.
 -- Assumes nothing.
-use mathlib.Core.Path.{_≡_, refl, _∙_}
+use mathlib.Core.Path.{_≡_, refl, sym, ap, _∙_}
+use mathlib.Core.Option.{none}
 use mathlib.Core.Logic.{_≢_}
 use Prim.Native.Nat.{ℕ, _+_}
-use native.Mathlib.Omega.{arith}
 use Rattle.finite.proofs.Tests.{is-same, not-same}
 use Rattle.finite.proofs.Cases.{byEq}
 use Rattle.histories.specs.Histories.{Cost, _⊓_, then, both, resting, parting, moving, ending, stepping, Out, leaf, one, two, mixed, Gene}
 use mathlib.Core.List.{List}
-use Rattle.histories.specs.Words.{noHistory, costOf, Cell, Readable, Descendants}
+use Rattle.histories.specs.Words.{costIn, Cell, Readable, tipCost, innerCost}
 use Rattle.histories.specs.Families.{outBy, geneBy}
-use Rattle.histories.proofs.Words.{cost-none, cost-some}
+use Rattle.histories.proofs.Words.{or-none}
 
 module _ (x y z s : ℕ) where
   pub out-leaf : x ≡ 0 → outBy x y z s ≡ leaf s
@@ -35,93 +35,67 @@ module _ (x y z s : ℕ) where
   byOut l t m o = byEq x 0 (λ e. l (out-leaf e))
       (λ d. byEq y 0 (λ e. byEq z 0 (λ f. o d (out-one d e f)) (λ f. m d e f (out-mixed d e f))) (λ e. t d e (out-two d e)))
 
-  pub rest-none : (k : ℕ) → x ≢ 0 → costOf noHistory ≡ resting k (outBy x y z s)
-  unfolding resting
-  rest-none k d = cost-none {w = noHistory} refl ∙ byEq y 0
-      (λ e. byEq z 0 (λ f. rw (out-one d e f)) (λ f. rw (out-mixed d e f)))
-      (λ e. rw (out-two d e))
+  -- a leaf gene, by what leaves the node: f, u and w are the ends read so far
+  module _ (t l k : ℕ) (G : ℕ → Cost) (c : Cost) where
+    pub tip-leaf : x ≡ 0 → c ≡ resting k (leaf s) → c ≡ tipCost t l k G (outBy x y z s)
+    unfolding tipCost moving
+    tip-leaf e q = q ∙ rw (out-leaf e) (or-none (resting k (leaf s)))
 
-  pub rest-other : (k : ℕ) → x ≡ 0 → k ≢ s → costOf noHistory ≡ resting k (outBy x y z s)
-  unfolding resting
-  rest-other k e d = cost-none {w = noHistory} refl ∙ rw (out-leaf e, not-same d)
+    pub tip-two : (f u : ℕ) → f ≡ x → u ≡ y → f ≢ 0 → u ≢ 0 → c ≡ (then l (G f) ⊓ then l (G u)) → c ≡ tipCost t l k G (outBy x y z s)
+    unfolding tipCost resting moving _⊓_
+    tip-two f u ef eu d e q = q ∙ rw (ef, eu, out-two (λ h. d (ef ∙ h)) (λ h. e (eu ∙ h)))
 
-  pub rest-same : (k : ℕ) → x ≡ 0 → k ≡ s → costOf 0 ≡ resting k (outBy x y z s)
-  unfolding resting
-  rest-same k e d = cost-some {w = 0} (λ q. omega arith) ∙ rw (out-leaf e, is-same d)
+    pub tip-one : (f u w : ℕ) → f ≡ x → u ≡ y → w ≡ z → f ≢ 0 → u ≡ 0 → w ≡ 0 → c ≡ then 0 (G f) → c ≡ tipCost t l k G (outBy x y z s)
+    unfolding tipCost resting moving _⊓_
+    tip-one f u w ef eu ew d e h q = q ∙ rw (ef, out-one (λ o. d (ef ∙ o)) (sym eu ∙ e) (sym ew ∙ h))
 
-  module _ (t : ℕ) (A B : ℕ → Cost) (v : ℕ) where
-    pub part-leaf : x ≡ 0 → costOf noHistory ≡ parting t A B v (outBy x y z s)
-    unfolding parting
-    part-leaf e = cost-none {w = noHistory} refl ∙ rw (out-leaf e)
+    pub tip-mixed : (f u w : ℕ) → f ≡ x → u ≡ y → w ≡ z → f ≢ 0 → u ≡ 0 → w ≢ 0 → c ≡ (then (t + l) (G w) ⊓ then 0 (G f)) → c ≡ tipCost t l k G (outBy x y z s)
+    unfolding tipCost resting moving _⊓_
+    tip-mixed f u w ef eu ew d e h q = q ∙ rw (ef, ew, out-mixed (λ o. d (ef ∙ o)) (sym eu ∙ e) (λ o. h (ew ∙ o)))
 
-    pub part-two : x ≢ 0 → y ≢ 0 → (r : ℕ) → costOf r ≡ (both 0 (A x) (B y) ⊓ both 0 (B x) (A y)) → costOf r ≡ parting t A B v (outBy x y z s)
-    unfolding parting
-    part-two d e r q = rw (out-two d e) q
+  -- an inner gene
+  module _ (d t l : ℕ) (A B G : ℕ → Cost) (v : ℕ) (c : Cost) where
+    pub inner-leaf : x ≡ 0 → c ≡ both d (A v) (B v) → c ≡ innerCost d t l A B G v (outBy x y z s)
+    unfolding innerCost parting moving
+    inner-leaf e q = q ∙ rw (out-leaf e) (or-none (both d (A v) (B v)) ∙ or-none (both d (A v) (B v) ⊓ none))
 
-    pub part-mixed : x ≢ 0 → y ≡ 0 → z ≢ 0 → (r : ℕ) → costOf r ≡ ((both t (A z) (B v) ⊓ both t (B z) (A v)) ⊓ (both t (A z) (B x) ⊓ both t (B z) (A x))) → costOf r ≡ parting t A B v (outBy x y z s)
-    unfolding parting
-    part-mixed d e f r q = rw (out-mixed d e f) q
+    pub inner-two : (f u : ℕ) → f ≡ x → u ≡ y → f ≢ 0 → u ≢ 0
+        → c ≡ ((both d (A v) (B v) ⊓ (both 0 (A f) (B u) ⊓ both 0 (B f) (A u))) ⊓ (then l (G f) ⊓ then l (G u))) → c ≡ innerCost d t l A B G v (outBy x y z s)
+    unfolding innerCost parting moving
+    inner-two f u ef eu p e q = q ∙ rw (ef, eu, out-two (λ h. p (ef ∙ h)) (λ h. e (eu ∙ h)))
 
-    pub part-one : x ≢ 0 → y ≡ 0 → z ≡ 0 → costOf noHistory ≡ parting t A B v (outBy x y z s)
-    unfolding parting
-    part-one d e f = cost-none {w = noHistory} refl ∙ rw (out-one d e f)
+    pub inner-one : (f u w : ℕ) → f ≡ x → u ≡ y → w ≡ z → f ≢ 0 → u ≡ 0 → w ≡ 0 → c ≡ (both d (A v) (B v) ⊓ then 0 (G f)) → c ≡ innerCost d t l A B G v (outBy x y z s)
+    unfolding innerCost parting moving
+    inner-one f u w ef eu ew p e h q = q ∙ rw (ef, out-one (λ o. p (ef ∙ o)) (sym eu ∙ e) (sym ew ∙ h)) (ap (λ (y : Cost). y ⊓ then 0 (G x)) (or-none (both d (A v) (B v))))
 
-  module _ (t l : ℕ) (G : ℕ → Cost) where
-    pub move-leaf : x ≡ 0 → costOf noHistory ≡ moving t l G (outBy x y z s)
-    unfolding moving
-    move-leaf e = cost-none {w = noHistory} refl ∙ rw (out-leaf e)
+    pub inner-mixed : (f u w : ℕ) → f ≡ x → u ≡ y → w ≡ z → f ≢ 0 → u ≡ 0 → w ≢ 0
+        → c ≡ ((both d (A v) (B v) ⊓ ((both t (A w) (B v) ⊓ both t (B w) (A v)) ⊓ (both t (A w) (B f) ⊓ both t (B w) (A f)))) ⊓ (then (t + l) (G w) ⊓ then 0 (G f)))
+        → c ≡ innerCost d t l A B G v (outBy x y z s)
+    unfolding innerCost parting moving
+    inner-mixed f u w ef eu ew p e h q = q ∙ rw (ef, ew, out-mixed (λ o. p (ef ∙ o)) (sym eu ∙ e) (λ o. h (ew ∙ o)))
 
-    pub move-two : x ≢ 0 → y ≢ 0 → (r : ℕ) → costOf r ≡ (then l (G x) ⊓ then l (G y)) → costOf r ≡ moving t l G (outBy x y z s)
-    unfolding moving
-    move-two d e r q = rw (out-two d e) q
+-- the lesser of three sums
+pub joined : (r p q h k : ℕ) (D E M : Cost) → costIn r ≡ (costIn p ⊓ costIn q) → costIn p ≡ (costIn h ⊓ costIn k) → costIn h ≡ D → costIn k ≡ E → costIn q ≡ M → costIn r ≡ ((D ⊓ E) ⊓ M)
+joined r p q h k D E M er ep eh ek eq = er ∙ rw (ep, eh, ek, eq)
 
-    pub move-mixed : x ≢ 0 → y ≡ 0 → z ≢ 0 → (r : ℕ) → costOf r ≡ (then (t + l) (G z) ⊓ then 0 (G x)) → costOf r ≡ moving t l G (outBy x y z s)
-    unfolding moving
-    move-mixed d e f r q = rw (out-mixed d e f) q
+-- a leaf gene's step and an inner gene's are those of the clauses
+pub tip-step : (d t l : ℕ) (W : ℕ → ℕ → Cost) (g a b k v : ℕ) (o : Out) → a ≡ 0 → tipCost t l k (W g) o ≡ stepping d t l W g (geneBy a b k) v o
+unfolding tipCost stepping ending geneBy
+tip-step d t l W g a b k v o e = rw (is-same e)
 
-    pub move-one : x ≢ 0 → y ≡ 0 → z ≡ 0 → (r : ℕ) → costOf r ≡ then 0 (G x) → costOf r ≡ moving t l G (outBy x y z s)
-    unfolding moving
-    move-one d e f r q = rw (out-one d e f) q
+pub inner-step : (d t l : ℕ) (W : ℕ → ℕ → Cost) (g a b k v : ℕ) (o : Out) → a ≢ 0 → innerCost d t l (W a) (W b) (W g) v o ≡ stepping d t l W g (geneBy a b k) v o
+unfolding innerCost stepping ending geneBy
+inner-step d t l W g a b k v o e = rw (not-same e)
 
--- a leaf gene rests; the children of an inner gene start there or part
-pub end-tip : (d t : ℕ) (W : ℕ → ℕ → Cost) (a b k v : ℕ) (o : Out) (r : ℕ) → a ≡ 0 → costOf r ≡ resting k o → costOf r ≡ ending d t W (geneBy a b k) v o
-unfolding ending geneBy
-end-tip d t W a b k v o r e q = rw (is-same e) q
+-- the words that each case reads: f, u and w are the ends read so far
+module _ (r : List ℕ) (x y z : ℕ) (h : Readable r x y z) where
+  pub read-first : (f : ℕ) → f ≡ x → f ≢ 0 → Cell r f
+  read-first f ef d = rw ef (h .first (λ o. d (ef ∙ o)))
 
-pub end-pair : (d t : ℕ) (W : ℕ → ℕ → Cost) (a b k v : ℕ) (o : Out) (av bv p q r : ℕ) → a ≢ 0 → costOf av ≡ W a v → costOf bv ≡ W b v
-    → costOf p ≡ both d (costOf av) (costOf bv) → costOf q ≡ parting t (W a) (W b) v o → costOf r ≡ (costOf p ⊓ costOf q) → costOf r ≡ ending d t W (geneBy a b k) v o
-unfolding ending geneBy
-end-pair d t W a b k v o av bv p q r e ea eb ep eq er = rw (not-same e) (er ∙ rw (ep, eq, ea, eb))
+  pub read-second : (f u : ℕ) → f ≡ x → u ≡ y → f ≢ 0 → u ≢ 0 → Cell r u
+  read-second f u ef eu d e = rw eu (h .second (λ o. d (ef ∙ o)) (λ o. e (eu ∙ o)))
 
--- a gene ends or moves on
-pub step-join : (d t l : ℕ) (W : ℕ → ℕ → Cost) (g : ℕ) (k : Gene) (v : ℕ) (o : Out) (p q r : ℕ) → costOf p ≡ ending d t W k v o
-    → costOf q ≡ moving t l (W g) o → costOf r ≡ (costOf p ⊓ costOf q) → costOf r ≡ stepping d t l W g k v o
-unfolding stepping
-step-join d t l W g k v o p q r ep eq er = er ∙ rw (ep, eq)
+  pub read-other : (f u w : ℕ) → f ≡ x → u ≡ y → w ≡ z → f ≢ 0 → u ≡ 0 → w ≢ 0 → Cell r w
+  read-other f u w ef eu ew d e q = rw ew (h .other (λ o. d (ef ∙ o)) (sym eu ∙ e) (λ o. q (ew ∙ o)))
 
--- the words that each case reads
-pub read-first : (n : ℕ) (s : List ℕ) (g x y z : ℕ) → Readable n s g x y z → x ≢ 0 → Cell n s g x
-read-first n s g x y z r d = r .first d
-
-pub read-second : (n : ℕ) (s : List ℕ) (g x y z : ℕ) → Readable n s g x y z → x ≢ 0 → y ≢ 0 → Cell n s g y
-read-second n s g x y z r d e = r .second d e
-
-pub read-other : (n : ℕ) (s : List ℕ) (g x y z : ℕ) → Readable n s g x y z → x ≢ 0 → y ≡ 0 → z ≢ 0 → Cell n s g z
-read-other n s g x y z r d e f = r .other d e f
-
-module _ (n : ℕ) (s : List ℕ) (a b v x y z : ℕ) (r : Descendants n s a b v x y z) (d : a ≢ 0) where
-  pub read-left-here : Cell n s a v
-  read-left-here = r .left-here d
-
-  pub read-right-here : Cell n s b v
-  read-right-here = r .right-here d
-
-  pub read-left : Readable n s a x y z
-  read-left = r .left d
-
-  pub read-right : Readable n s b x y z
-  read-right = r .right d
-
-pub ruleset descendant-laws = (read-left-here, read-right-here, read-left, read-right)
-
-pub ruleset clause-laws = (rest-none, rest-other, rest-same, part-leaf, part-two, part-one, move-leaf, move-one, end-tip, read-first, read-second, read-other)
+pub ruleset reads = (read-first, read-second, read-other)

@@ -8,9 +8,10 @@ use mathlib.Core.Option.{none, some}
 use mathlib.Core.List.{List, [], _∷_}
 use Prim.Native.Nat.{ℕ, zero, suc, _+_, _-_, _*_, _/_, _%_, _≤_, _<_}
 use lib.ListN.{getD, length}
-use Rattle.finite.specs.Tests.{same}
+use Rattle.finite.specs.Tests.{same, under}
 use Rattle.finite.specs.Tables.{at}
-use Rattle.histories.specs.Histories.{Family, Cost, least}
+use Rattle.histories.specs.Histories.{Family, Out, Cost, _⊓_, both, resting, parting, moving, least}
+use Rattle.histories.specs.Grades.{Prepared}
 
 -- the word that stands for no history
 abbrev pub noHistory : ℕ
@@ -23,6 +24,10 @@ word (some c) = c
 -- the cost that a word stands for
 unfoldable pub costOf : ℕ → Cost
 costOf w = cond (same w noHistory) none (some w)
+
+-- the cost that a sum of words stands for: from the word for no history on, none. So words may be added before it is told whether they stand for a history
+unfoldable pub costIn : ℕ → Cost
+costIn w = cond (under w noHistory) (some w) none
 
 -- the place of gene g and node v in the table
 unfoldable pub cell : (n : ℕ) → ℕ → ℕ → ℕ
@@ -37,25 +42,35 @@ unfoldable pub Small : Cost → Type 0
 Small none = Unit {0}
 Small (some c) = c ≤ 1000000000
 
--- the words s hold a small cost for gene g and node v
-pub record Cell (n : ℕ) (s : List ℕ) (g v : ℕ) : Type 0 where
-  pub gene-low : 1 ≤ g
+-- the costs that the words r of one row hold, by node
+unfoldable pub costAt : List ℕ → ℕ → Cost
+costAt r v = costOf (getD r (v - 1) 0)
+
+-- the row r holds a small cost for node v
+pub record Cell (r : List ℕ) (v : ℕ) : Type 0 where
   pub node-low : 1 ≤ v
-  pub inside : cell n g v < length s
-  pub small : Small (row n s g v)
+  pub inside : v - 1 < length r
+  pub small : Small (costAt r v)
 
--- of gene g the words s hold a small cost at each node that the arcs out lead to, x and y by principal arcs and z by a secondary one, 0 for none
-pub record Readable (n : ℕ) (s : List ℕ) (g x y z : ℕ) : Type 0 where
-  pub first : x ≢ 0 → Cell n s g x
-  pub second : x ≢ 0 → y ≢ 0 → Cell n s g y
-  pub other : x ≢ 0 → y ≡ 0 → z ≢ 0 → Cell n s g z
+-- it does at each node that the arcs out lead to, x and y by principal arcs and z by a secondary one, 0 for none
+pub record Readable (r : List ℕ) (x y z : ℕ) : Type 0 where
+  pub first : x ≢ 0 → Cell r x
+  pub second : x ≢ 0 → y ≢ 0 → Cell r y
+  pub other : x ≢ 0 → y ≡ 0 → z ≢ 0 → Cell r z
 
--- the same of the two children a and b of a gene, 0 for none, and at the node v too
-pub record Descendants (n : ℕ) (s : List ℕ) (a b v x y z : ℕ) : Type 0 where
-  pub left-here : a ≢ 0 → Cell n s a v
-  pub right-here : a ≢ 0 → Cell n s b v
-  pub left : a ≢ 0 → Readable n s a x y z
-  pub right : a ≢ 0 → Readable n s b x y z
+-- the rows of the two children of a gene do, and at the node v too
+pub record Descendants (a b : List ℕ) (v x y z : ℕ) : Type 0 where
+  pub left-here : Cell a v
+  pub right-here : Cell b v
+  pub left : Readable a x y z
+  pub right : Readable b x y z
+
+-- the least cost of a leaf gene of species k with the row G, and of an inner gene whose children have the rows A and B, at a node v with the arcs out o
+unfoldable pub tipCost : (t l k : ℕ) (G : ℕ → Cost) → Out → Cost
+tipCost t l k G o = resting k o ⊓ moving t l G o
+
+unfoldable pub innerCost : (d t l : ℕ) (A B G : ℕ → Cost) → ℕ → Out → Cost
+innerCost d t l A B G v o = (both d (A v) (B v) ⊓ parting t A B v o) ⊓ moving t l G o
 
 -- the rows of the genes above k hold their least costs
 pub record Rows (F : Family) (s : List ℕ) (k : ℕ) : Type 0 where
@@ -65,6 +80,14 @@ pub record Rows (F : Family) (s : List ℕ) (k : ℕ) : Type 0 where
 pub record Partly (F : Family) (order s : List ℕ) (g i : ℕ) : Type 0 where
   pub above : Rows F s g
   pub done : (j : ℕ) → 1 ≤ j → j ≤ i → row (F .nodes) s g (at order j) ≡ least F g (at order j)
+
+-- the words s have room for the table, and the row of gene g begins at the place r
+pub record RowAt (F : Family) (order s : List ℕ) (g r : ℕ) : Type 0 where
+  pub prepared : Prepared F order
+  pub gene-low : 1 ≤ g
+  pub gene-high : g ≤ F .genes
+  pub long : F .genes * F .nodes ≤ length s
+  pub starts : r ≡ (g - 1) * F .nodes
 
 -- the words t are the words s, but for the table: "other words .. keep what they held"
 pub record Kept (F : Family) (s t : List ℕ) : Type 0 where
@@ -86,5 +109,5 @@ words F = listed (wordAt F) 0 (F .genes * F .nodes)
 
 -- whoever unfolds this unfolds all of this file
 unfoldable pub open-Words : Unit {0}
-unfolding word costOf cell row listed wordAt words
+unfolding word costOf costIn cell row costAt tipCost innerCost listed wordAt words
 open-Words = tt

@@ -1,20 +1,21 @@
 // The network as a whole: the least cost over all histories, for each gene and starting node.
 ghost use mathlib.Core.Path.{_≡_};
+ghost use mathlib.Core.Logic.{_≢_};
 ghost use Prim.Native.Nat.{ℕ, _+_, _-_, _*_, _≤_, _<_};
-ghost use lib.ListN.{length};
+ghost use lib.ListN.{length, drop};
 ghost use Rattle.finite.specs.Tables.{at};
 ghost use Rattle.finite.specs.Tests.{tally};
 ghost use Rattle.topology.specs.Tables.{rankFrom};
-ghost use Rattle.histories.specs.Histories.{_⊓_, then, both, resting, parting, moving, ending, stepping, leastOver};
-ghost use Rattle.histories.specs.Words.{costOf, row, Small, Cell, Readable, Descendants, Rows, Kept};
+ghost use Rattle.histories.specs.Histories.{_⊓_, then, both, resting, leaf, leastOver};
+ghost use Rattle.histories.specs.Words.{costOf, costIn, row, costAt, Cell, Readable, Descendants, tipCost, innerCost, Rows, Partly, RowAt, Kept};
 ghost use Rattle.histories.specs.Grades.{Prepared};
 ghost use Rattle.histories.specs.Orders.{ranksOf, earlier, placeOf, Placed};
-ghost use Rattle.histories.specs.Families.{outBy, geneBy, familyOf};
+ghost use Rattle.histories.specs.Families.{outBy, familyOf};
 ghost use Rattle.histories.specs.Accepted.{Accepted};
 ghost use Rattle.histories.specs.Promise.{WholeNetwork};
 ghost use Rattle.whole_network.specs.Headers.{familyIn};
 
-// The word that stands for no history.
+// The word that stands for no history. Words are added as `usize`: a sum from this word on stands for none, so no word is told apart before it is added.
 const NONE: u32 = 4294967295;
 
 // How many nodes and genes, and the costs of a duplication, a transfer and a loss.
@@ -32,9 +33,16 @@ fn wide(x: u32) -> usize
     x as usize
 }
 
+// A word as a term of a sum.
+fn term(x: u32) -> usize
+    ensures { λ r. ⌜ (r ≡ x) × (r ≤ 4294967295) ⌝ }
+{
+    x as usize
+}
+
 // The lesser of two costs.
-fn lesser(a: u32, b: u32) -> u32
-    ensures { λ r. ⌜ costOf r ≡ (costOf a ⊓ costOf b) ⌝ }
+fn lesser(a: usize, b: usize) -> usize
+    ensures { λ r. ⌜ costIn r ≡ (costIn a ⊓ costIn b) ⌝ }
 {
     if a < b {
         return a;
@@ -42,207 +50,208 @@ fn lesser(a: u32, b: u32) -> u32
     b
 }
 
-// An event of cost x, then a history.
-fn before(x: u32, a: u32) -> u32
-    requires { ⌜ (x ≤ 198) × Small (costOf a) ⌝ }
-    ensures { λ r. ⌜ costOf r ≡ then x (costOf a) ⌝ }
+// The word of a cost.
+fn clipped(c: usize) -> u32
+    ensures { λ r. ⌜ costOf r ≡ costIn c ⌝ }
 {
-    if a == NONE {
-        return NONE;
+    if c < wide(NONE) {
+        return c as u32;
     }
-    x + a
+    NONE
 }
 
-// An event of cost x, then the histories of both children.
-fn before_both(x: u32, a: u32, b: u32) -> u32
-    requires { ⌜ (x ≤ 198) × Small (costOf a) × Small (costOf b) ⌝ }
-    ensures { λ r. ⌜ costOf r ≡ both x (costOf a) (costOf b) ⌝ }
+// An event of cost c, then the history of the gene with this row from v on.
+fn after(c: usize, row: &[u32], v: usize) -> usize
+    requires { ⌜ (c ≤ 198) × Cell (now row) v ⌝ }
+    ensures { λ r. ⌜ costIn r ≡ then c (costAt (now (row .entry)) v) ⌝ }
 {
-    if a == NONE {
-        return NONE;
-    }
-    if b == NONE {
-        return NONE;
-    }
-    x + a + b
+    c + term(row[v - 1])
 }
 
-// The word of gene g and node v.
-fn read(scratch: &[u32], n: usize, g: usize, v: usize) -> u32
-    requires { ⌜ Cell n (now scratch) g v ⌝ }
-    ensures { λ r. ⌜ (costOf r ≡ row n (now (scratch .entry)) g v) × Small (costOf r) ⌝ }
+// An event of cost c, then the histories of two children with the rows a and b, from u and from v on.
+fn after_both(c: usize, a: &[u32], u: usize, b: &[u32], v: usize) -> usize
+    requires { ⌜ (c ≤ 198) × Cell (now a) u × Cell (now b) v ⌝ }
+    ensures { λ r. ⌜ costIn r ≡ both c (costAt (now (a .entry)) u) (costAt (now (b .entry)) v) ⌝ }
 {
-    scratch[(g - 1) * n + (v - 1)]
+    c + term(a[u - 1]) + term(b[v - 1])
 }
 
-// "rest, if both are leaves of one species": a leaf gene of this kind at a node of this species whose first child is x.
-fn rest(kind: u32, species: u32, x: usize) -> u32
-    ensures { λ r. ⌜ ((y z : ℕ) → costOf r ≡ resting kind (outBy x y z species)) ⌝ }
+// "rest, if both are leaves of one species": a leaf gene of this kind at a leaf of this species.
+fn rest(kind: u32, species: u32) -> usize
+    ensures { λ r. ⌜ costIn r ≡ resting kind (leaf species) ⌝ }
 {
-    if x != 0 {
-        return NONE;
-    }
     if kind != species {
-        return NONE;
+        return wide(NONE);
     }
     0
 }
 
-// Two principal arcs, to x and y: one child down each.
-fn speciate(ax: u32, ay: u32, bx: u32, by: u32) -> u32
-    requires { ⌜ Small (costOf ax) × Small (costOf ay) × Small (costOf bx) × Small (costOf by) ⌝ }
-    ensures { λ r. ⌜ costOf r ≡ (both 0 (costOf ax) (costOf by) ⊓ both 0 (costOf bx) (costOf ay)) ⌝ }
+// The children with the rows a and b part down two principal arcs, to x and y.
+fn speciated(a: &[u32], b: &[u32], x: usize, y: usize) -> usize
+    requires { ⌜ Cell (now a) x × Cell (now a) y × Cell (now b) x × Cell (now b) y ⌝ }
+    ensures { λ r. ⌜ costIn r ≡ (both 0 (costAt (now (a .entry)) x) (costAt (now (b .entry)) y) ⊓ both 0 (costAt (now (b .entry)) x) (costAt (now (a .entry)) y)) ⌝ }
 {
-    lesser(before_both(0, ax, by), before_both(0, bx, ay))
+    lesser(after_both(0, a, x, b, y), after_both(0, b, x, a, y))
 }
 
-// A secondary arc, to y: one child along it, and the other starts at the word that goes with it.
-fn send(t: u32, ay: u32, by: u32, a: u32, b: u32) -> u32
-    requires { ⌜ t ≤ 99 ⌝ }
-    requires { ⌜ Small (costOf ay) × Small (costOf by) × Small (costOf a) × Small (costOf b) ⌝ }
-    ensures { λ r. ⌜ costOf r ≡ (both t (costOf ay) (costOf b) ⊓ both t (costOf by) (costOf a)) ⌝ }
+// One of them goes along the secondary arc to z, while the other starts at u.
+fn sent(a: &[u32], b: &[u32], z: usize, u: usize, t: usize) -> usize
+    requires { ⌜ (t ≤ 99) × Cell (now a) z × Cell (now b) z × Cell (now a) u × Cell (now b) u ⌝ }
+    ensures { λ r. ⌜ costIn r ≡ (both t (costAt (now (a .entry)) z) (costAt (now (b .entry)) u) ⊓ both t (costAt (now (b .entry)) z) (costAt (now (a .entry)) u)) ⌝ }
 {
-    lesser(before_both(t, ay, b), before_both(t, by, a))
+    lesser(after_both(t, a, z, b, u), after_both(t, b, z, a, u))
 }
 
-// The children a and b part down the two principal arcs to x and y.
-fn speciated(scratch: &[u32], n: usize, a: usize, b: usize, x: usize, y: usize) -> u32
-    requires { ⌜ Cell n (now scratch) a x × Cell n (now scratch) a y × Cell n (now scratch) b x × Cell n (now scratch) b y ⌝ }
-    ensures { λ r. ⌜ costOf r ≡ (both 0 (row n (now (scratch .entry)) a x) (row n (now (scratch .entry)) b y) ⊓ both 0 (row n (now (scratch .entry)) b x) (row n (now (scratch .entry)) a y)) ⌝ }
+// The other stays at v, or takes the principal arc to x.
+fn transferred(a: &[u32], b: &[u32], v: usize, x: usize, z: usize, t: usize) -> usize
+    requires { ⌜ (t ≤ 99) × Cell (now a) z × Cell (now b) z × Cell (now a) v × Cell (now b) v × Cell (now a) x × Cell (now b) x ⌝ }
+    ensures { λ r. ⌜ costIn r ≡ ((both t (costAt (now (a .entry)) z) (costAt (now (b .entry)) v) ⊓ both t (costAt (now (b .entry)) z) (costAt (now (a .entry)) v)) ⊓ (both t (costAt (now (a .entry)) z) (costAt (now (b .entry)) x) ⊓ both t (costAt (now (b .entry)) z) (costAt (now (a .entry)) x))) ⌝ }
 {
-    let ax = read(scratch, n, a, x);
-    let ay = read(scratch, n, a, y);
-    let bx = read(scratch, n, b, x);
-    let by = read(scratch, n, b, y);
-    speciate(ax, ay, bx, by)
+    lesser(sent(a, b, z, v, t), sent(a, b, z, x, t))
 }
 
-// One of the children a and b goes along the secondary arc to z, while the other starts at u.
-fn sent(scratch: &[u32], n: usize, a: usize, b: usize, z: usize, u: usize, t: u32) -> u32
-    requires { ⌜ t ≤ 99 ⌝ }
-    requires { ⌜ Cell n (now scratch) a z × Cell n (now scratch) b z × Cell n (now scratch) a u × Cell n (now scratch) b u ⌝ }
-    ensures { λ r. ⌜ costOf r ≡ (both t (row n (now (scratch .entry)) a z) (row n (now (scratch .entry)) b u) ⊓ both t (row n (now (scratch .entry)) b z) (row n (now (scratch .entry)) a u)) ⌝ }
+// The gene with the row g goes down one of two principal arcs, to x and y, with a loss.
+fn lost(g: &[u32], x: usize, y: usize, l: usize) -> usize
+    requires { ⌜ (l ≤ 99) × Cell (now g) x × Cell (now g) y ⌝ }
+    ensures { λ r. ⌜ costIn r ≡ (then l (costAt (now (g .entry)) x) ⊓ then l (costAt (now (g .entry)) y)) ⌝ }
 {
-    let az = read(scratch, n, a, z);
-    let bz = read(scratch, n, b, z);
-    let au = read(scratch, n, a, u);
-    let bu = read(scratch, n, b, u);
-    send(t, az, bz, au, bu)
+    lesser(after(l, g, x), after(l, g, y))
 }
 
-// The children a and b part at v: down two principal arcs, or one along the secondary arc while the other stays or takes the principal arc.
-fn parted(
-    scratch: &[u32],
-    n: usize,
-    a: usize,
-    b: usize,
-    v: usize,
-    x: usize,
-    y: usize,
-    z: usize,
-    t: u32,
-) -> u32
-    requires { ⌜ t ≤ 99 ⌝ }
-    requires { ⌜ Cell n (now scratch) a v × Cell n (now scratch) b v × Readable n (now scratch) a x y z × Readable n (now scratch) b x y z ⌝ }
-    ensures { λ r. ⌜ ((s : ℕ) → costOf r ≡ parting t (row n (now (scratch .entry)) a) (row n (now (scratch .entry)) b) v (outBy x y z s)) ⌝ }
+// It goes along the secondary arc to z with a transfer and a loss, or down the only principal arc, to x, free.
+fn carried(g: &[u32], x: usize, z: usize, t: usize, l: usize) -> usize
+    requires { ⌜ (t ≤ 99) × (l ≤ 99) × Cell (now g) x × Cell (now g) z ⌝ }
+    ensures { λ r. ⌜ costIn r ≡ (then (t + l) (costAt (now (g .entry)) z) ⊓ then 0 (costAt (now (g .entry)) x)) ⌝ }
 {
-    if x == 0 {
-        return NONE;
-    }
-    if y != 0 {
-        return speciated(scratch, n, a, b, x, y);
-    }
-    if z == 0 {
-        return NONE;
-    }
-    lesser(
-        sent(scratch, n, a, b, z, v, t),
-        sent(scratch, n, a, b, z, x, t),
-    )
+    lesser(after(t + l, g, z), after(0, g, x))
 }
 
-// Gene g moves on: down one of two principal arcs with a loss, along the secondary arc with a transfer and a loss, down the only principal arc free.
-fn moved(scratch: &[u32], n: usize, g: usize, x: usize, y: usize, z: usize, t: u32, l: u32) -> u32
-    requires { ⌜ (t ≤ 99) × (l ≤ 99) ⌝ }
-    requires { ⌜ Readable n (now scratch) g x y z ⌝ }
-    ensures { λ r. ⌜ ((s : ℕ) → costOf r ≡ moving t l (row n (now (scratch .entry)) g) (outBy x y z s)) ⌝ }
-{
-    if x == 0 {
-        return NONE;
-    }
-    let gx = read(scratch, n, g, x);
-    if y != 0 {
-        return lesser(before(l, gx), before(l, read(scratch, n, g, y)));
-    }
-    if z == 0 {
-        return before(0, gx);
-    }
-    lesser(before(t + l, read(scratch, n, g, z)), before(0, gx))
-}
-
-// A gene with the children a and b, 0 for none, ends at v: it rests, or both children start there, or they part.
-fn ended(
-    scratch: &[u32],
-    n: usize,
-    a: usize,
-    b: usize,
+// The least cost of a leaf gene of this kind, with the row g, at v: it rests, or it moves on. The tables have a node's first and second child by a
+// principal arc, its child by a secondary arc, and its species.
+fn tip_cost(
+    g: &[u32],
     kind: u32,
-    species: u32,
     v: usize,
-    x: usize,
-    y: usize,
-    z: usize,
-    d: u32,
-    t: u32,
-) -> u32
-    requires { ⌜ (d ≤ 99) × (t ≤ 99) ⌝ }
-    requires { ⌜ Descendants n (now scratch) a b v x y z ⌝ }
-    ensures { λ r. ⌜ costOf r ≡ ending d t (row n (now (scratch .entry))) (geneBy a b kind) v (outBy x y z species) ⌝ }
+    first: &[u32; 128],
+    second: &[u32; 128],
+    other: &[u32; 128],
+    species: &[u32; 128],
+    t: usize,
+    l: usize,
+) -> usize
+    requires { ⌜ (v ≤ 127) × (t ≤ 99) × (l ≤ 99) × Readable (now g) (at (now first) v) (at (now second) v) (at (now other) v) ⌝ }
+    ensures { λ r. ⌜ costIn r ≡ tipCost t l kind (costAt (now (g .entry))) (outBy (at (now (first .entry)) v) (at (now (second .entry)) v) (at (now (other .entry)) v) (at (now (species .entry)) v)) ⌝ }
 {
-    if a == 0 {
-        return rest(kind, species, x);
+    let x = wide(first[v]);
+    if x == 0 {
+        return rest(kind, species[v]);
     }
-    let av = read(scratch, n, a, v);
-    let bv = read(scratch, n, b, v);
+    let y = wide(second[v]);
+    if y != 0 {
+        return lost(g, x, y, l);
+    }
+    let z = wide(other[v]);
+    if z == 0 {
+        return after(0, g, x);
+    }
+    carried(g, x, z, t, l)
+}
+
+// The least cost of an inner gene with the row g, whose children have the rows a and b, at v: both children start there, or they part, or it moves on.
+fn inner_cost(
+    a: &[u32],
+    b: &[u32],
+    g: &[u32],
+    v: usize,
+    first: &[u32; 128],
+    second: &[u32; 128],
+    other: &[u32; 128],
+    d: usize,
+    t: usize,
+    l: usize,
+) -> usize
+    requires { ⌜ (v ≤ 127) × (d ≤ 99) × (t ≤ 99) × (l ≤ 99) ⌝ }
+    requires { ⌜ Readable (now g) (at (now first) v) (at (now second) v) (at (now other) v) × Descendants (now a) (now b) v (at (now first) v) (at (now second) v) (at (now other) v) ⌝ }
+    ensures { λ r. ⌜ ((s : ℕ) → costIn r ≡ innerCost d t l (costAt (now (a .entry))) (costAt (now (b .entry))) (costAt (now (g .entry))) v (outBy (at (now (first .entry)) v) (at (now (second .entry)) v) (at (now (other .entry)) v) s)) ⌝ }
+{
+    let here = after_both(d, a, v, b, v);
+    let x = wide(first[v]);
+    if x == 0 {
+        return here;
+    }
+    let y = wide(second[v]);
+    if y != 0 {
+        return lesser(lesser(here, speciated(a, b, x, y)), lost(g, x, y, l));
+    }
+    let z = wide(other[v]);
+    if z == 0 {
+        return lesser(here, after(0, g, x));
+    }
     lesser(
-        before_both(d, av, bv),
-        parted(scratch, n, a, b, v, x, y, z, t),
+        lesser(here, transferred(a, b, v, x, z, t)),
+        carried(g, x, z, t, l),
     )
 }
 
-// The least cost of gene g starting at v: it ends there, or it moves on.
-fn word_of(
+// The word of a leaf gene whose row begins at g.
+fn tip_word(
     scratch: &[u32],
-    n: usize,
     g: usize,
-    a: usize,
-    b: usize,
     kind: u32,
-    species: u32,
     v: usize,
-    x: usize,
-    y: usize,
-    z: usize,
-    d: u32,
-    t: u32,
-    l: u32,
+    first: &[u32; 128],
+    second: &[u32; 128],
+    other: &[u32; 128],
+    species: &[u32; 128],
+    t: usize,
+    l: usize,
 ) -> u32
-    requires { ⌜ (d ≤ 99) × (t ≤ 99) × (l ≤ 99) ⌝ }
-    requires { ⌜ Readable n (now scratch) g x y z × Descendants n (now scratch) a b v x y z ⌝ }
-    ensures { λ r. ⌜ costOf r ≡ stepping d t l (row n (now (scratch .entry))) g (geneBy a b kind) v (outBy x y z species) ⌝ }
+    requires { ⌜ (g ≤ length (now scratch)) × (v ≤ 127) × (t ≤ 99) × (l ≤ 99) × Readable (drop g (now scratch)) (at (now first) v) (at (now second) v) (at (now other) v) ⌝ }
+    ensures { λ r. ⌜ costOf r ≡ tipCost t l kind (costAt (drop g (now (scratch .entry)))) (outBy (at (now (first .entry)) v) (at (now (second .entry)) v) (at (now (other .entry)) v) (at (now (species .entry)) v)) ⌝ }
 {
-    lesser(
-        ended(scratch, n, a, b, kind, species, v, x, y, z, d, t),
-        moved(scratch, n, g, x, y, z, t, l),
-    )
+    clipped(tip_cost(&scratch[g..], kind, v, first, second, other, species, t, l))
 }
 
-// The same from tables: a node's first and second child by a principal arc, its child by a secondary arc and its species; a gene's children and species.
-fn word_at(
+// The word of an inner gene whose row begins at g, and its children's at a and b.
+fn inner_word(
     scratch: &[u32],
+    a: usize,
+    b: usize,
+    g: usize,
+    v: usize,
+    first: &[u32; 128],
+    second: &[u32; 128],
+    other: &[u32; 128],
+    d: usize,
+    t: usize,
+    l: usize,
+) -> u32
+    requires { ⌜ (a ≤ length (now scratch)) × (b ≤ length (now scratch)) × (g ≤ length (now scratch)) × (v ≤ 127) × (d ≤ 99) × (t ≤ 99) × (l ≤ 99) ⌝ }
+    requires { ⌜ Readable (drop g (now scratch)) (at (now first) v) (at (now second) v) (at (now other) v) × Descendants (drop a (now scratch)) (drop b (now scratch)) v (at (now first) v) (at (now second) v) (at (now other) v) ⌝ }
+    ensures { λ r. ⌜ ((s : ℕ) → costOf r ≡ innerCost d t l (costAt (drop a (now (scratch .entry)))) (costAt (drop b (now (scratch .entry)))) (costAt (drop g (now (scratch .entry)))) v (outBy (at (now (first .entry)) v) (at (now (second .entry)) v) (at (now (other .entry)) v) s)) ⌝ }
+{
+    clipped(inner_cost(
+        &scratch[a..],
+        &scratch[b..],
+        &scratch[g..],
+        v,
+        first,
+        second,
+        other,
+        d,
+        t,
+        l,
+    ))
+}
+
+// The next word of the row of a leaf gene of the kind k: at place i + 1 of the order.
+fn tip_cell(
     h: Header,
     g: usize,
-    v: usize,
+    i: usize,
+    row: usize,
+    k: u32,
+    order: &[u32; 128],
     first: &[u32; 128],
     second: &[u32; 128],
     other: &[u32; 128],
@@ -250,36 +259,140 @@ fn word_at(
     left: &[u32; 128],
     right: &[u32; 128],
     kind: &[u32; 128],
-) -> u32
-    requires { ⌜ (h .duplication ≤ 99) × (h .transfer ≤ 99) × (h .loss ≤ 99) × (g ≤ 127) × (v ≤ 127) ⌝ }
-    requires { ⌜ Readable (h .nodes) (now scratch) g (at (now first) v) (at (now second) v) (at (now other) v) ⌝ }
-    requires { ⌜ Descendants (h .nodes) (now scratch) (at (now left) g) (at (now right) g) v (at (now first) v) (at (now second) v) (at (now other) v) ⌝ }
-    ensures { λ r. ⌜ costOf r ≡ stepping (h .duplication) (h .transfer) (h .loss) (row (h .nodes) (now (scratch .entry))) g (geneBy (at (now (left .entry)) g) (at (now (right .entry)) g) (at (now (kind .entry)) g)) v (outBy (at (now (first .entry)) v) (at (now (second .entry)) v) (at (now (other .entry)) v) (at (now (species .entry)) v)) ⌝ }
+    scratch: &mut [u32],
+)
+    requires { ⌜ RowAt (familyIn h (now first) (now second) (now other) (now species) (now left) (now right) (now kind)) (now order) (now scratch) g row × Partly (familyIn h (now first) (now second) (now other) (now species) (now left) (now right) (now kind)) (now order) (now scratch) g i × (i < h .nodes) ⌝ }
+    requires { ⌜ (at (now left) g ≡ 0) × (k ≡ at (now kind) g) ⌝ }
+    ensures { λ _. ⌜ Partly (familyIn h (now (first .entry)) (now (second .entry)) (now (other .entry)) (now (species .entry)) (now (left .entry)) (now (right .entry)) (now (kind .entry))) (now (order .entry)) (now (scratch .exit)) g (i + 1) ⌝ }
+    ensures { λ _. ⌜ Kept (familyIn h (now (first .entry)) (now (second .entry)) (now (other .entry)) (now (species .entry)) (now (left .entry)) (now (right .entry)) (now (kind .entry))) (now (scratch .entry)) (now (scratch .exit)) ⌝ }
 {
-    let a = wide(left[g]);
-    let b = wide(right[g]);
-    let x = wide(first[v]);
-    let y = wide(second[v]);
-    let z = wide(other[v]);
-    word_of(
-        scratch,
-        h.nodes,
-        g,
-        a,
-        b,
-        kind[g],
-        species[v],
-        v,
-        x,
-        y,
-        z,
-        h.duplication,
-        h.transfer,
-        h.loss,
-    )
+    let t = wide(h.transfer);
+    let l = wide(h.loss);
+    let v = wide(order[i + 1]);
+    let w = tip_word(scratch, row, k, v, first, second, other, species, t, l);
+    scratch[row + (v - 1)] = w;
 }
 
-// The row of gene g, from the rows of its children, the nodes in an order in which arcs out come first.
+// The next word of the row of an inner gene whose children's rows begin at a and b.
+fn inner_cell(
+    h: Header,
+    g: usize,
+    i: usize,
+    row: usize,
+    a: usize,
+    b: usize,
+    order: &[u32; 128],
+    first: &[u32; 128],
+    second: &[u32; 128],
+    other: &[u32; 128],
+    species: &[u32; 128],
+    left: &[u32; 128],
+    right: &[u32; 128],
+    kind: &[u32; 128],
+    scratch: &mut [u32],
+)
+    requires { ⌜ RowAt (familyIn h (now first) (now second) (now other) (now species) (now left) (now right) (now kind)) (now order) (now scratch) g row × Partly (familyIn h (now first) (now second) (now other) (now species) (now left) (now right) (now kind)) (now order) (now scratch) g i × (i < h .nodes) ⌝ }
+    requires { ⌜ (at (now left) g ≢ 0) × (a ≡ (at (now left) g - 1) * h .nodes) × (b ≡ (at (now right) g - 1) * h .nodes) ⌝ }
+    ensures { λ _. ⌜ Partly (familyIn h (now (first .entry)) (now (second .entry)) (now (other .entry)) (now (species .entry)) (now (left .entry)) (now (right .entry)) (now (kind .entry))) (now (order .entry)) (now (scratch .exit)) g (i + 1) ⌝ }
+    ensures { λ _. ⌜ Kept (familyIn h (now (first .entry)) (now (second .entry)) (now (other .entry)) (now (species .entry)) (now (left .entry)) (now (right .entry)) (now (kind .entry))) (now (scratch .entry)) (now (scratch .exit)) ⌝ }
+{
+    let d = wide(h.duplication);
+    let t = wide(h.transfer);
+    let l = wide(h.loss);
+    let v = wide(order[i + 1]);
+    let w = inner_word(scratch, a, b, row, v, first, second, other, d, t, l);
+    scratch[row + (v - 1)] = w;
+}
+
+// The row of a leaf gene, the nodes in an order in which arcs out come first.
+fn fill_tip_row(
+    h: Header,
+    g: usize,
+    row: usize,
+    k: u32,
+    order: &[u32; 128],
+    first: &[u32; 128],
+    second: &[u32; 128],
+    other: &[u32; 128],
+    species: &[u32; 128],
+    left: &[u32; 128],
+    right: &[u32; 128],
+    kind: &[u32; 128],
+    scratch: &mut [u32],
+)
+    requires { ⌜ RowAt (familyIn h (now first) (now second) (now other) (now species) (now left) (now right) (now kind)) (now order) (now scratch) g row × Rows (familyIn h (now first) (now second) (now other) (now species) (now left) (now right) (now kind)) (now scratch) g ⌝ }
+    requires { ⌜ (at (now left) g ≡ 0) × (k ≡ at (now kind) g) ⌝ }
+    ensures { λ _. ⌜ Rows (familyIn h (now (first .entry)) (now (second .entry)) (now (other .entry)) (now (species .entry)) (now (left .entry)) (now (right .entry)) (now (kind .entry))) (now (scratch .exit)) (g - 1) ⌝ }
+    ensures { λ _. ⌜ Kept (familyIn h (now (first .entry)) (now (second .entry)) (now (other .entry)) (now (species .entry)) (now (left .entry)) (now (right .entry)) (now (kind .entry))) (now (scratch .entry)) (now (scratch .exit)) ⌝ }
+{
+    let mut i: usize = 0;
+    while i < h.nodes {
+        tip_cell(
+            h,
+            g,
+            i,
+            row,
+            k,
+            order,
+            first,
+            second,
+            other,
+            species,
+            left,
+            right,
+            kind,
+            scratch,
+        );
+        i += 1;
+    }
+}
+
+// The row of an inner gene, from the rows of its children.
+fn fill_inner_row(
+    h: Header,
+    g: usize,
+    row: usize,
+    a: usize,
+    b: usize,
+    order: &[u32; 128],
+    first: &[u32; 128],
+    second: &[u32; 128],
+    other: &[u32; 128],
+    species: &[u32; 128],
+    left: &[u32; 128],
+    right: &[u32; 128],
+    kind: &[u32; 128],
+    scratch: &mut [u32],
+)
+    requires { ⌜ RowAt (familyIn h (now first) (now second) (now other) (now species) (now left) (now right) (now kind)) (now order) (now scratch) g row × Rows (familyIn h (now first) (now second) (now other) (now species) (now left) (now right) (now kind)) (now scratch) g ⌝ }
+    requires { ⌜ (at (now left) g ≢ 0) × (a ≡ (at (now left) g - 1) * h .nodes) × (b ≡ (at (now right) g - 1) * h .nodes) ⌝ }
+    ensures { λ _. ⌜ Rows (familyIn h (now (first .entry)) (now (second .entry)) (now (other .entry)) (now (species .entry)) (now (left .entry)) (now (right .entry)) (now (kind .entry))) (now (scratch .exit)) (g - 1) ⌝ }
+    ensures { λ _. ⌜ Kept (familyIn h (now (first .entry)) (now (second .entry)) (now (other .entry)) (now (species .entry)) (now (left .entry)) (now (right .entry)) (now (kind .entry))) (now (scratch .entry)) (now (scratch .exit)) ⌝ }
+{
+    let mut i: usize = 0;
+    while i < h.nodes {
+        inner_cell(
+            h,
+            g,
+            i,
+            row,
+            a,
+            b,
+            order,
+            first,
+            second,
+            other,
+            species,
+            left,
+            right,
+            kind,
+            scratch,
+        );
+        i += 1;
+    }
+}
+
+// The row of gene g. What depends on the gene alone is read here, once for all nodes.
 fn fill_row(
     h: Header,
     g: usize,
@@ -299,16 +412,16 @@ fn fill_row(
     ensures { λ _. ⌜ Rows (familyIn h (now (first .entry)) (now (second .entry)) (now (other .entry)) (now (species .entry)) (now (left .entry)) (now (right .entry)) (now (kind .entry))) (now (scratch .exit)) (g - 1) ⌝ }
     ensures { λ _. ⌜ Kept (familyIn h (now (first .entry)) (now (second .entry)) (now (other .entry)) (now (species .entry)) (now (left .entry)) (now (right .entry)) (now (kind .entry))) (now (scratch .entry)) (now (scratch .exit)) ⌝ }
 {
-    let n = h.nodes;
-    let mut i: usize = 0;
-    while i < n {
-        let j = i + 1;
-        let v = wide(order[j]);
-        let w = word_at(
-            scratch,
+    let row = (g - 1) * h.nodes;
+    let a = wide(left[g]);
+    if a == 0 {
+        let k = kind[g];
+        fill_tip_row(
             h,
             g,
-            v,
+            row,
+            k,
+            order,
             first,
             second,
             other,
@@ -316,10 +429,27 @@ fn fill_row(
             left,
             right,
             kind,
+            scratch,
         );
-        scratch[(g - 1) * n + (v - 1)] = w;
-        i = j;
+        return;
     }
+    let b = wide(right[g]);
+    fill_inner_row(
+        h,
+        g,
+        row,
+        (a - 1) * h.nodes,
+        (b - 1) * h.nodes,
+        order,
+        first,
+        second,
+        other,
+        species,
+        left,
+        right,
+        kind,
+        scratch,
+    );
 }
 
 // All rows: genes from the last to the first, for children have higher numbers.
@@ -364,13 +494,13 @@ fn least_start(n: usize, scratch: &[u32]) -> u32
     requires { ⌜ n ≤ length (now scratch) ⌝ }
     ensures { λ r. ⌜ costOf r ≡ leastOver n (row n (now (scratch .entry)) 1) ⌝ }
 {
-    let mut r = NONE;
+    let mut r = wide(NONE);
     let mut start: usize = 0;
     while start < n {
-        r = lesser(r, scratch[start]);
+        r = lesser(r, term(scratch[start]));
         start += 1;
     }
-    r
+    clipped(r)
 }
 
 // The rank of a node by its secondary parent and its stamp: it rises along every arc.

@@ -1,90 +1,99 @@
--- `whole_network::fill_row` meets its contract. The loop's invariant: the rows above hold their least costs, and this row does at the first i nodes of the order. The measure is what is left of the order.
+-- `whole_network::fill_row` meets its contract. A leaf gene's row and an inner gene's are filled each in its way.
 -- Assumes nothing.
-use Rattle.histories.proofs.Filling.{limits-are, row-start, row-done, kept-none, turn-node, turn-inside, turn-own, turn-children, turn-part, turn-kept}
-use borrow.Author.Needs.{needs}
+use Rattle.histories.proofs.Filling.{limits-are, row-at, row-low, row-children}
+use mathlib.Core.Path.{refl, _∙_}
 use native.Mathlib.Omega.{arith}
-use mathlib.Core.Path.{_≡_, refl}
-use Prim.Native.Nat.{_-_, _≤_}
-use Rattle.histories.specs.Words.{Partly, Kept}
-use Rattle.whole_network.specs.Headers.{familyIn}
+use borrow.Author.Needs.{needs}
 use Rattle.whole_network.proofs.fill_row.Statement.{statement}
 use Rattle.whole_network.proofs.fill_row.Tie as tie
 
-abbrev Inv-loop : tie.InvT-loop
-Inv-loop h g order first second other species left right kind scratch₀ n i₀ scratch i = (n ≡ h .nodes) × (i ≤ n) × Partly (familyIn h first second other species left right kind) order scratch g i × Kept (familyIn h first second other species left right kind) scratch₀ scratch
+sub-row : tie.Need-sub-row
+sub-row c = search needs
 
-abbrev μ-loop : tie.MeasureT-loop
-μ-loop h g order first second other species left right kind scratch₀ n i₀ scratch i = n - i
+mul-row : tie.Need-mul-row
+mul-row c = omega (arith, row-low _ _ _ _ _ _ _ _ _ _ _ _ _ (c .before .before .pre .0) _ (c .before .before .pre .1 .0 .1))
 
-loop-holds : tie.Need-loop-holds Inv-loop μ-loop
-loop-holds c = (refl, omega arith, row-start _ _ _ _ _ _ _ _ _ _ _ _ _ _ _ (c .before .pre .0) (c .before .pre .1 .1), kept-none _ _ _ _ _ _ _ _ _ _ _ _ _)
+mul-wide : tie.Need-mul-wide
+mul-wide c = let q = limits-are _ _ _ _ _ _ _ _ _ _ _ _ _ (c .before .before .pre .0) in omega (arith, (c .before .before .pre .1 .0 .1))
 
-add-j : tie.Need-add-j Inv-loop μ-loop
-add-j c = let q = limits-are _ _ _ _ _ _ _ _ _ _ _ _ _ (c .before .before .before .pre .0) in omega arith
+element-copy-out-wide : tie.Need-element-copy-out-wide
+element-copy-out-wide c = let q = limits-are _ _ _ _ _ _ _ _ _ _ _ _ _ (c .before .before .pre .0) in omega (arith, (c .before .before .pre .1 .0 .1))
 
-mul-wide : tie.Need-mul-wide Inv-loop μ-loop
-mul-wide c = let q = limits-are _ _ _ _ _ _ _ _ _ _ _ _ _ (c .before .before .before .pre .0) in omega arith
-
-element-copy-out-wide : tie.Need-element-copy-out-wide Inv-loop μ-loop
-element-copy-out-wide c = let q = limits-are _ _ _ _ _ _ _ _ _ _ _ _ _ (c .before .before .before .pre .0) in omega arith
-
-wide-requires : tie.Need-wide-requires Inv-loop μ-loop
+wide-requires : tie.Need-wide-requires
 wide-requires c κs = search needs
 
-word-at-requires : tie.Need-word-at-requires Inv-loop μ-loop
-word-at-requires c κs =
-    let q = limits-are _ _ _ _ _ _ _ _ _ _ _ _ _ (c .before .before .before .before .before .before .pre .0) in let u = turn-node _ _ _ _ _ _ _ _ _ _ _ _ _ _ _ _ _ _ (c .before .before .before .before .before .before .pre .0) (c .before .before .before .before .before .before .pre .1 .0 .0) (c .before .before .before .before .before .before .pre .1 .0 .1) (c .before .before .before .before .before .before .pre .1 .0 .2) (c .before .before .before .before .loop .inv .3) (c .before .before .before .before .loop .inv .2) (omega arith) (c .before .wide .ensures) in
-    ((omega arith, omega arith, omega arith, omega arith, omega arith), (turn-own _ _ _ _ _ _ _ _ _ _ _ _ _ _ _ _ _ _ (c .before .before .before .before .before .before .pre .0) (c .before .before .before .before .before .before .pre .1 .0 .0) (c .before .before .before .before .before .before .pre .1 .0 .1) (c .before .before .before .before .before .before .pre .1 .0 .2) (c .before .before .before .before .loop .inv .3) (c .before .before .before .before .loop .inv .2) (omega arith) (c .before .wide .ensures), turn-children _ _ _ _ _ _ _ _ _ _ _ _ _ _ _ _ _ _ (c .before .before .before .before .before .before .pre .0) (c .before .before .before .before .before .before .pre .1 .0 .0) (c .before .before .before .before .before .before .pre .1 .0 .1) (c .before .before .before .before .before .before .pre .1 .0 .2) (c .before .before .before .before .loop .inv .3) (c .before .before .before .before .loop .inv .2) (omega arith) (c .before .wide .ensures)))
+mul-k : tie.Need-mul-k
+mul-k c = let q = limits-are _ _ _ _ _ _ _ _ _ _ _ _ _ (c .before .before .before .before .before .pre .0) in omega (arith, (c .before .before .before .before .before .pre .1 .0 .1))
 
-sub-scratch : tie.Need-sub-scratch Inv-loop μ-loop
-sub-scratch c = omega (arith, c .before .before .before .before .before .before .before .pre .1 .0 .0)
+element-copy-out-k : tie.Need-element-copy-out-k
+element-copy-out-k c = let q = limits-are _ _ _ _ _ _ _ _ _ _ _ _ _ (c .before .before .before .before .before .pre .0) in omega (arith, (c .before .before .before .before .before .pre .1 .0 .1))
 
-mul-scratch : tie.Need-mul-scratch Inv-loop μ-loop
-mul-scratch c = let u = turn-inside _ _ _ _ _ _ _ _ _ _ _ _ _ _ _ _ _ _ (c .before .before .before .before .before .before .before .pre .0) (c .before .before .before .before .before .before .before .pre .1 .0 .0) (c .before .before .before .before .before .before .before .pre .1 .0 .1) (c .before .before .before .before .before .before .before .pre .1 .0 .2) (c .before .before .before .before .before .loop .inv .3) (c .before .before .before .before .before .loop .inv .2) (omega arith) (c .before .before .wide .ensures) in omega arith
+fill-tip-row-requires : tie.Need-fill-tip-row-requires
+fill-tip-row-requires c κs = ((row-at _ _ _ _ _ _ _ _ _ _ _ _ _ _ _ _ (c .before .before .before .before .before .before .before .pre .0) (c .before .before .before .before .before .before .before .pre .1 .0 .0) (c .before .before .before .before .before .before .before .pre .1 .0 .1) (c .before .before .before .before .before .before .before .pre .1 .0 .2) refl, (c .before .before .before .before .before .before .before .pre .1 .1)), (omega (arith, (c .before .before .before .wide .ensures)), refl))
 
-sub-scratch-2 : tie.Need-sub-scratch-2 Inv-loop μ-loop
-sub-scratch-2 c = (turn-node _ _ _ _ _ _ _ _ _ _ _ _ _ _ _ _ _ _ (c .before .before .before .before .before .before .before .pre .0) (c .before .before .before .before .before .before .before .pre .1 .0 .0) (c .before .before .before .before .before .before .before .pre .1 .0 .1) (c .before .before .before .before .before .before .before .pre .1 .0 .2) (c .before .before .before .before .before .loop .inv .3) (c .before .before .before .before .before .loop .inv .2) (omega arith) (c .before .before .wide .ensures)) .0
+same-length : tie.Need-same-length
+same-length c = search needs
 
-add-scratch : tie.Need-add-scratch Inv-loop μ-loop
-add-scratch c = let u = turn-inside _ _ _ _ _ _ _ _ _ _ _ _ _ _ _ _ _ _ (c .before .before .before .before .before .before .before .pre .0) (c .before .before .before .before .before .before .before .pre .1 .0 .0) (c .before .before .before .before .before .before .before .pre .1 .0 .1) (c .before .before .before .before .before .before .before .pre .1 .0 .2) (c .before .before .before .before .before .loop .inv .3) (c .before .before .before .before .before .loop .inv .2) (omega arith) (c .before .before .wide .ensures) in omega arith
+returns : tie.Need-returns
+returns c = search needs
 
-mul-scratch-2 : tie.Need-mul-scratch-2 Inv-loop μ-loop
-mul-scratch-2 c = let u = turn-inside _ _ _ _ _ _ _ _ _ _ _ _ _ _ _ _ _ _ (c .before .before .before .before .before .before .before .pre .0) (c .before .before .before .before .before .before .before .pre .1 .0 .0) (c .before .before .before .before .before .before .before .pre .1 .0 .1) (c .before .before .before .before .before .before .before .pre .1 .0 .2) (c .before .before .before .before .before .loop .inv .3) (c .before .before .before .before .before .loop .inv .2) (omega arith) (c .before .before .wide .ensures) in omega arith
+mul-wide-2 : tie.Need-mul-wide-2
+mul-wide-2 c = let q = limits-are _ _ _ _ _ _ _ _ _ _ _ _ _ (c .before .before .before .before .before .pre .0) in omega (arith, (c .before .before .before .before .before .pre .1 .0 .1))
 
-slice-write-scratch : tie.Need-slice-write-scratch Inv-loop μ-loop
-slice-write-scratch c = turn-inside _ _ _ _ _ _ _ _ _ _ _ _ _ _ _ _ _ _ (c .before .before .before .before .before .before .before .pre .0) (c .before .before .before .before .before .before .before .pre .1 .0 .0) (c .before .before .before .before .before .before .before .pre .1 .0 .1) (c .before .before .before .before .before .before .before .pre .1 .0 .2) (c .before .before .before .before .before .loop .inv .3) (c .before .before .before .before .before .loop .inv .2) (omega arith) (c .before .before .wide .ensures)
+element-copy-out-wide-2 : tie.Need-element-copy-out-wide-2
+element-copy-out-wide-2 c = let q = limits-are _ _ _ _ _ _ _ _ _ _ _ _ _ (c .before .before .before .before .before .pre .0) in omega (arith, (c .before .before .before .before .before .pre .1 .0 .1))
 
-loop-less : tie.Need-loop-less Inv-loop μ-loop
-loop-less c = omega arith
+wide-requires-2 : tie.Need-wide-requires-2
+wide-requires-2 c κs = search needs
 
-loop-again : tie.Need-loop-again Inv-loop μ-loop
-loop-again c = (refl, omega arith, turn-part _ _ _ _ _ _ _ _ _ _ _ _ _ _ _ _ _ _ (c .before .before .before .before .before .before .before .pre .0) (c .before .before .before .before .before .before .before .pre .1 .0 .0) (c .before .before .before .before .before .before .before .pre .1 .0 .1) (c .before .before .before .before .before .before .before .pre .1 .0 .2) (c .before .before .before .before .before .loop .inv .3) (c .before .before .before .before .before .loop .inv .2) (omega arith) (c .before .before .wide .ensures) _ (c .word-at .ensures), turn-kept _ _ _ _ _ _ _ _ _ _ _ _ _ _ _ _ _ _ (c .before .before .before .before .before .before .before .pre .0) (c .before .before .before .before .before .before .before .pre .1 .0 .0) (c .before .before .before .before .before .before .before .pre .1 .0 .1) (c .before .before .before .before .before .before .before .pre .1 .0 .2) (c .before .before .before .before .before .loop .inv .3) (c .before .before .before .before .before .loop .inv .2) (omega arith) (c .before .before .wide .ensures) _ (c .word-at .ensures))
+sub-fill-inner-row : tie.Need-sub-fill-inner-row
+sub-fill-inner-row c = search needs
 
-same-length : tie.Need-same-length Inv-loop μ-loop
-same-length c = c .before .loop .inv .3 .long
+mul-fill-inner-row : tie.Need-mul-fill-inner-row
+mul-fill-inner-row c =
+    let k = row-children _ _ _ _ _ _ _ _ _ _ _ _ _ (c .before .before .before .before .before .before .before .before .pre .0) _ (c .before .before .before .before .before .before .before .before .pre .1 .0 .0) (c .before .before .before .before .before .before .before .before .pre .1 .0 .1) (λ e. (c .before .before .before .if1 .left) ((c .before .before .before .before .wide .ensures) ∙ e)) in
+    omega (arith, row-low _ _ _ _ _ _ _ _ _ _ _ _ _ (c .before .before .before .before .before .before .before .before .pre .0) (c .before .before .before .before .wide .result) (omega (arith, k .1, (c .before .before .before .before .wide .ensures))))
 
-returns : tie.Need-returns Inv-loop μ-loop
-returns c = (row-done _ _ _ _ _ _ _ _ _ _ _ _ _ _ _ _ (c .before .before .before .pre .0) (c .before .before .before .pre .1 .0 .0) (omega arith) (c .before .loop .inv .2), c .before .loop .inv .3)
+sub-fill-inner-row-2 : tie.Need-sub-fill-inner-row-2
+sub-fill-inner-row-2 c =
+    let k = row-children _ _ _ _ _ _ _ _ _ _ _ _ _ (c .before .before .before .before .before .before .before .before .pre .0) _ (c .before .before .before .before .before .before .before .before .pre .1 .0 .0) (c .before .before .before .before .before .before .before .before .pre .1 .0 .1) (λ e. (c .before .before .before .if1 .left) ((c .before .before .before .before .wide .ensures) ∙ e)) in
+    omega (arith, k .2, (c .before .wide2 .ensures))
+
+mul-fill-inner-row-2 : tie.Need-mul-fill-inner-row-2
+mul-fill-inner-row-2 c =
+    let k = row-children _ _ _ _ _ _ _ _ _ _ _ _ _ (c .before .before .before .before .before .before .before .before .before .pre .0) _ (c .before .before .before .before .before .before .before .before .before .pre .1 .0 .0) (c .before .before .before .before .before .before .before .before .before .pre .1 .0 .1) (λ e. (c .before .before .before .before .if1 .left) ((c .before .before .before .before .before .wide .ensures) ∙ e)) in
+    omega (arith, row-low _ _ _ _ _ _ _ _ _ _ _ _ _ (c .before .before .before .before .before .before .before .before .before .pre .0) (c .before .before .wide2 .result) (omega (arith, k .3, (c .before .before .wide2 .ensures))))
+
+fill-inner-row-requires : tie.Need-fill-inner-row-requires
+fill-inner-row-requires c κs = ((row-at _ _ _ _ _ _ _ _ _ _ _ _ _ _ _ _ (c .before .before .before .before .before .before .before .before .before .before .pre .0) (c .before .before .before .before .before .before .before .before .before .before .pre .1 .0 .0) (c .before .before .before .before .before .before .before .before .before .before .pre .1 .0 .1) (c .before .before .before .before .before .before .before .before .before .before .pre .1 .0 .2) refl, (c .before .before .before .before .before .before .before .before .before .before .pre .1 .1)), (λ e. (c .before .before .before .before .before .if1 .left) ((c .before .before .before .before .before .before .wide .ensures) ∙ e), rw (c .before .before .before .before .before .before .wide .ensures), rw (c .before .before .before .wide2 .ensures)))
+
+same-length-2 : tie.Need-same-length-2
+same-length-2 c = search needs
+
+returns-2 : tie.Need-returns-2
+returns-2 c = search needs
 
 pub fill-row-spec : {M : Type 1} → statement M
 fill-row-spec =
     tie.close
     (tie.spec
-    Inv-loop
-    μ-loop
-    loop-holds
-    add-j
+    sub-row
+    mul-row
     mul-wide
     element-copy-out-wide
     wide-requires
-    word-at-requires
-    sub-scratch
-    mul-scratch
-    sub-scratch-2
-    add-scratch
-    mul-scratch-2
-    slice-write-scratch
-    loop-less
-    loop-again
+    mul-k
+    element-copy-out-k
+    fill-tip-row-requires
     same-length
-    returns)
+    returns
+    mul-wide-2
+    element-copy-out-wide-2
+    wide-requires-2
+    sub-fill-inner-row
+    mul-fill-inner-row
+    sub-fill-inner-row-2
+    mul-fill-inner-row-2
+    fill-inner-row-requires
+    same-length-2
+    returns-2)

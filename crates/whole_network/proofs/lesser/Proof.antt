@@ -1,4 +1,4 @@
--- `whole_network::lesser` meets its contract. The word for no history is the highest, so the lesser word stands for the lesser cost.
+-- `whole_network::lesser` meets its contract. No history is the highest of all sums, so the lesser sum stands for the lesser cost.
 -- Assumes nothing.
 use native.Mathlib.Omega.{arith}
 use Rattle.histories.proofs.Words.{lesser-left, lesser-right}
@@ -6,10 +6,10 @@ use Rattle.whole_network.proofs.lesser.Statement.{statement}
 use Rattle.whole_network.proofs.lesser.Tie as tie
 
 returns : tie.Need-returns
-returns c = lesser-left _ _ (omega arith) (omega arith)
+returns c = lesser-left _ _ (omega arith)
 
 returns-2 : tie.Need-returns-2
-returns-2 c = lesser-right _ _ (omega arith) (omega arith)
+returns-2 c = lesser-right _ _ (omega arith)
 
 pub lesser-spec : {M : Type 1} → statement M
 lesser-spec = tie.close (tie.spec returns returns-2)

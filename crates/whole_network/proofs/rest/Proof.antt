@@ -1,18 +1,24 @@
--- `whole_network::rest` meets its contract. Each return is one case of resting, by the first child of the node and the two species.
+-- `whole_network::rest` meets its contract. Each return is one case of resting, by the two species.
 -- Assumes nothing.
+use mathlib.Core.Path.{_∙_}
 use native.Mathlib.Omega.{arith}
-use Rattle.histories.proofs.Clauses.{rest-none, rest-other, rest-same}
+use Rattle.finite.proofs.Tests.{is-same, not-same}
+use Rattle.histories.specs.Histories.{resting}
+use Rattle.histories.proofs.Words.{sum-none, sum-some}
+use borrow.Author.Needs.{needs}
 use Rattle.whole_network.proofs.rest.Statement.{statement}
 use Rattle.whole_network.proofs.rest.Tie as tie
 
+wide-requires : tie.Need-wide-requires
+wide-requires c κs = search needs
+
 returns : tie.Need-returns
-returns c = λ y z. rest-none _ y z _ _ (λ e. omega arith)
+unfolding resting
+returns c = sum-none (omega arith) ∙ rw (not-same (c .before .if1 .taken))
 
 returns-2 : tie.Need-returns-2
-returns-2 c = λ y z. rest-other _ y z _ _ (omega arith) (λ e. omega arith)
-
-returns-3 : tie.Need-returns-3
-returns-3 c = λ y z. rest-same _ y z _ _ (omega arith) (omega arith)
+unfolding resting
+returns-2 c = sum-some (omega arith) ∙ rw (is-same (c .if1 .left))
 
 pub rest-spec : {M : Type 1} → statement M
-rest-spec = tie.close (tie.spec returns returns-2 returns-3)
+rest-spec = tie.close (tie.spec wide-requires returns returns-2)
