@@ -2,7 +2,7 @@
 ghost use mathlib.Core.Path.{_≡_};
 ghost use mathlib.Core.Bool.{_&&_};
 ghost use Prim.Native.Nat.{_≤_};
-ghost use Rattle.tables.specs.Children.{childCounts};
+ghost use Rattle.tables.specs.Children.{firstChildren, childCounts};
 ghost use Rattle.gene_tree.specs.Refusals.{isNext, next, parentFits, childrenFit, treeFits, bearer, speciesFits, seatsFit, geneVerdict};
 ghost use Rattle.gene_tree.specs.Genes.{leftTable, rightTable, leafTable, leafOf};
 
@@ -82,25 +82,26 @@ fn tree_fits(m: usize, parent: &[u32; 128], counts: &[u32; 128]) -> bool
     true
 }
 
-// The node that bears species s, 0 where none does. No species is borne by no node, though other nodes than leaves have 0 there.
-fn bearer_of(n: usize, borne: &[u32; 128], s: usize) -> usize
-    requires { ⌜ n ≤ 127 ⌝ }
+// The node that bears species s, 0 where none does. No species is borne by no node, though other nodes than leaves have 0 there. Species are most
+// often numbered from 1, so the bearers of the numbers up to n are looked up in a table, and only others are sought.
+fn bearer_of(n: usize, borne: &[u32; 128], bearers: &[u32; 128], s: usize) -> usize
+    requires { ⌜ (n ≤ 127) × (now bearers ≡ firstChildren n (now borne)) ⌝ }
     ensures { λ r. ⌜ (r ≡ bearer n (now (borne .entry)) s) × (r ≤ n) ⌝ }
 {
-    if s == 0 {
-        return 0;
+    if s <= n {
+        return wide(bearers[s]);
     }
     next_of(n, borne, s)
 }
 
-fn species_fits(n: usize, borne: &[u32; 128], k: usize, s: usize) -> bool
-    requires { ⌜ n ≤ 127 ⌝ }
+fn species_fits(n: usize, borne: &[u32; 128], bearers: &[u32; 128], k: usize, s: usize) -> bool
+    requires { ⌜ (n ≤ 127) × (now bearers ≡ firstChildren n (now borne)) ⌝ }
     ensures { λ r. ⌜ r ≡ speciesFits n (now (borne .entry)) k s ⌝ }
 {
     if k != 0 {
         return s == 0;
     }
-    bearer_of(n, borne, s) != 0
+    bearer_of(n, borne, bearers, s) != 0
 }
 
 // 13: whether each leaf gene has a leaf of its species, and no inner gene has a species.
@@ -115,10 +116,11 @@ fn seats_fit(
     requires { ⌜ (n ≤ 127) × (m ≤ 127) × (now counts ≡ childCounts m (now parent)) ⌝ }
     ensures { λ r. ⌜ r ≡ seatsFit n m (now (parent .entry)) (now (species .entry)) (now (borne .entry)) ⌝ }
 {
+    let bearers = tables::first_children(n, borne);
     let mut g: usize = 0;
     while g < m {
         let w = g + 1;
-        if !species_fits(n, borne, wide(counts[w]), wide(species[w])) {
+        if !species_fits(n, borne, &bearers, wide(counts[w]), wide(species[w])) {
             return false;
         }
         g = w;
@@ -164,11 +166,17 @@ pub fn right_children(m: usize, parent: &[u32; 128]) -> [u32; 128]
     tables::second_children(m, parent, &left)
 }
 
-fn leaf_of(n: usize, species: &[u32; 128], borne: &[u32; 128], g: usize) -> u32
-    requires { ⌜ (n ≤ 127) × (g ≤ 127) ⌝ }
+fn leaf_of(
+    n: usize,
+    species: &[u32; 128],
+    borne: &[u32; 128],
+    bearers: &[u32; 128],
+    g: usize,
+) -> u32
+    requires { ⌜ (n ≤ 127) × (g ≤ 127) × (now bearers ≡ firstChildren n (now borne)) ⌝ }
     ensures { λ r. ⌜ r ≡ leafOf n (now (species .entry)) (now (borne .entry)) g ⌝ }
 {
-    bearer_of(n, borne, wide(species[g])) as u32
+    bearer_of(n, borne, bearers, wide(species[g])) as u32
 }
 
 // The node at which each leaf gene sits, 0 for an inner gene.
@@ -176,11 +184,12 @@ pub fn leaf_nodes(m: usize, species: &[u32; 128], n: usize, borne: &[u32; 128]) 
     requires { ⌜ (n ≤ 127) × (m ≤ 127) ⌝ }
     ensures { λ r. ⌜ r ≡ leafTable n m (now (species .entry)) (now (borne .entry)) ⌝ }
 {
+    let bearers = tables::first_children(n, borne);
     let mut out = [0u32; 128];
     let mut g: usize = 0;
     while g < m {
         let w = g + 1;
-        out[w] = leaf_of(n, species, borne, w);
+        out[w] = leaf_of(n, species, borne, &bearers, w);
         g = w;
     }
     out

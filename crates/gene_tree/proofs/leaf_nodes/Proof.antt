@@ -1,19 +1,26 @@
 -- `gene_tree::leaf_nodes` meets its contract. The invariant: the entries passed are filled.
 -- Assumes nothing.
+use borrow.Author.Needs.{needs}
 use Prim.Native.Nat.{_-_, _≤_}
 use mathlib.Core.Path.{_≡_}
 use Rattle.finite.specs.Tables.{filled}
 use Rattle.finite.proofs.Tables.{fill-loop}
 use Rattle.gene_tree.specs.Genes.{zeros, leafOf, leafTable}
-use borrow.Author.Needs.{needs}
 use Rattle.gene_tree.proofs.leaf_nodes.Statement.{statement}
 use Rattle.gene_tree.proofs.leaf_nodes.Tie as tie
+use Rattle.gene_tree.proofs.leaf_nodes.Reads as reads
+use Rattle.gene_tree.proofs.leaf_nodes.Lts as lts
+use Rattle.gene_tree.proofs.leaf_of.Reads as leaf-of-reads
+use Rattle.tables.proofs.first_children.Reads as first-children-reads
 
 abbrev Inv-loop : tie.InvT-loop
-Inv-loop m species n borne out₀ g₀ out g = (g ≤ m) × (out ≡ filled g zeros (leafOf n species borne))
+Inv-loop m species n borne bearers out₀ g₀ out g = (g ≤ m) × (out ≡ filled g zeros (leafOf n species borne))
 
 abbrev μ-loop : tie.MeasureT-loop
-μ-loop m species n borne out₀ g₀ out g = m - g
+μ-loop m species n borne bearers out₀ g₀ out g = m - g
+
+first-children-requires : tie.Need-first-children-requires Inv-loop μ-loop
+first-children-requires c κs = search needs
 
 loop-holds : tie.Need-loop-holds Inv-loop μ-loop
 unfolding zeros
@@ -47,6 +54,7 @@ leaf-nodes-spec =
     (tie.spec
     Inv-loop
     μ-loop
+    first-children-requires
     loop-holds
     add-w
     leaf-of-requires

@@ -1,5 +1,6 @@
 -- `gene_tree::seats_fit` meets its contract. The invariant: each gene passed has its seat.
 -- Assumes nothing.
+use borrow.Author.Needs.{needs}
 use Prim.Native.Nat.{_-_, _≤_}
 use mathlib.Core.Path.{_≡_}
 use mathlib.Core.Bool.{true}
@@ -7,15 +8,22 @@ use Rattle.finite.specs.Range.{every}
 use Rattle.finite.proofs.Every.{every-loop}
 use Rattle.gene_tree.specs.Refusals.{seatFits, seatsFit}
 use Rattle.gene_tree.proofs.Tables.{seat-at}
-use borrow.Author.Needs.{needs}
 use Rattle.gene_tree.proofs.seats_fit.Statement.{statement}
 use Rattle.gene_tree.proofs.seats_fit.Tie as tie
+use Rattle.gene_tree.proofs.seats_fit.Reads as reads
+use Rattle.gene_tree.proofs.seats_fit.Lts as lts
+use Rattle.gene_tree.proofs.species_fits.Reads as species-fits-reads
+use Rattle.gene_tree.proofs.wide.Reads as wide-reads
+use Rattle.tables.proofs.first_children.Reads as first-children-reads
 
 abbrev Inv-loop : tie.InvT-loop
-Inv-loop n m parent counts species borne g₀ g = (g ≤ m) × (every g (seatFits n m parent species borne) ≡ true)
+Inv-loop n m parent counts species borne bearers g₀ g = (g ≤ m) × (every g (seatFits n m parent species borne) ≡ true)
 
 abbrev μ-loop : tie.MeasureT-loop
-μ-loop n m parent counts species borne g₀ g = m - g
+μ-loop n m parent counts species borne bearers g₀ g = m - g
+
+first-children-requires : tie.Need-first-children-requires Inv-loop μ-loop
+first-children-requires c κs = search needs
 
 loop-holds : tie.Need-loop-holds Inv-loop μ-loop
 loop-holds c = search (needs, every-loop)
@@ -64,6 +72,7 @@ seats-fit-spec =
     (tie.spec
     Inv-loop
     μ-loop
+    first-children-requires
     loop-holds
     add-w
     mul-wide
