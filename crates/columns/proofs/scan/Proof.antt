@@ -2,7 +2,7 @@
 -- Assumes nothing.
 use Prim.Native.Nat.{ℕ, _+_, _-_, _*_, _≤_, _<_}
 use mathlib.Core.Path.{_≡_, sym, _∙_}
-use mathlib.Core.Bool.{true}
+use mathlib.Core.Bool.{true, false}
 use native.Mathlib.Omega.{arith}
 use borrow.Author.Tests.{not-true, not-false}
 use borrow.Author.Count.{below-more}
@@ -42,7 +42,8 @@ returns : tie.Need-returns Inv-loop μ-loop
 returns c =
     let l = c .before .before .before .before .loop in
     let a = c .before .before .before .before .before .before .args in
-    misfit (a .s .now) (a .at) (l .i) (search needs) (rw (l .inv .2) at (sym (c .before .fits2 .ensures) ∙ not-true _ (c .if1 .taken)))
+    let unfit : fitting (getD (a .s .now) (a .at + l .i) 0) (l .n) (5 - l .i) ≡ false = sym (c .before .fits2 .ensures) ∙ not-true _ (c .if1 .taken) in
+    misfit (a .s .now) (a .at) (l .i) (search needs) (rw (l .inv .2) at unfit)
 
 wide-requires : tie.Need-wide-requires Inv-loop μ-loop
 wide-requires c κs = search needs
