@@ -1,0 +1,35 @@
+-- The counter ends the loop.
+-- Assumes nothing.
+use Prim.Native.Nat.{_≤_}
+use borrow.Author.Needs.{needs}
+use Rattle.random_test.proofs.whole.all_rounds.Statement.{statement}
+use Rattle.random_test.proofs.whole.all_rounds.Tie as tie
+
+abbrev Inv-loop : tie.InvT-loop
+Inv-loop least₀ model g left₀ least left = left ≤ left₀
+
+abbrev μ-loop : tie.MeasureT-loop
+μ-loop least₀ model g left₀ least left = left
+
+loop-holds : tie.Need-loop-holds Inv-loop μ-loop
+loop-holds c = search needs
+
+all-nodes-requires : tie.Need-all-nodes-requires Inv-loop μ-loop
+all-nodes-requires c κs = search needs
+
+sub-left : tie.Need-sub-left Inv-loop μ-loop
+sub-left c = search needs
+
+loop-less : tie.Need-loop-less Inv-loop μ-loop
+loop-less c = search needs
+
+loop-again : tie.Need-loop-again Inv-loop μ-loop
+loop-again c = search needs
+
+returns : tie.Need-returns Inv-loop μ-loop
+returns c = search needs
+
+pub all-rounds-spec : {M : Type 1} → statement M
+all-rounds-spec =
+    tie.close
+    (tie.spec Inv-loop μ-loop loop-holds all-nodes-requires sub-left loop-less loop-again returns)

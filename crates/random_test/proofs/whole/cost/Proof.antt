@@ -1,0 +1,47 @@
+-- The counter ends the loop.
+-- Assumes nothing.
+use Prim.Native.Nat.{_≤_}
+use borrow.Author.Needs.{needs}
+use Rattle.random_test.proofs.whole.cost.Statement.{statement}
+use Rattle.random_test.proofs.whole.cost.Tie as tie
+
+abbrev Inv-loop : tie.InvT-loop
+Inv-loop least n r₀ v₀ r v = v ≤ v₀
+
+abbrev μ-loop : tie.MeasureT-loop
+μ-loop least n r₀ v₀ r v = v
+
+loop-holds : tie.Need-loop-holds Inv-loop μ-loop
+loop-holds c = search needs
+
+at-requires : tie.Need-at-requires Inv-loop μ-loop
+at-requires c κs = search needs
+
+cheaper-requires : tie.Need-cheaper-requires Inv-loop μ-loop
+cheaper-requires c κs = search needs
+
+sub-v : tie.Need-sub-v Inv-loop μ-loop
+sub-v c = search needs
+
+loop-less : tie.Need-loop-less Inv-loop μ-loop
+loop-less c = search needs
+
+loop-again : tie.Need-loop-again Inv-loop μ-loop
+loop-again c = search needs
+
+returns : tie.Need-returns Inv-loop μ-loop
+returns c = search needs
+
+pub cost-spec : {M : Type 1} → statement M
+cost-spec =
+    tie.close
+    (tie.spec
+    Inv-loop
+    μ-loop
+    loop-holds
+    at-requires
+    cheaper-requires
+    sub-v
+    loop-less
+    loop-again
+    returns)
