@@ -1,13 +1,19 @@
-//! What the test program `random_test` has to write. Only its generator of sheets is repeated here; the counts are of the reference
-//! implementation and of the enumeration of all settings.
+//! What the test program `random_test` has to write. Its generator of sheets is repeated here, draw for draw; what is counted on the sheets
+//! comes from the reference implementation and from the enumeration of all settings.
 
 use crate::enumeration;
 use crate::reference::sheet::Sheet;
 use crate::reference::{self, Answer, RESULT_BYTES, SCRATCH_WORDS};
 
-pub const SHEETS: u32 = 400;
+const SHEETS: u32 = 1000;
+
+/// The most reticulations of a network.
 const MOST_TRANSFERS: usize = 6;
-const MOST_GENES: usize = 23;
+
+/// With this many genes no more part.
+const MANY_GENES: usize = 22;
+
+/// The stamp of leaves.
 const TODAY: u32 = 50;
 
 fn mixed(x: u32) -> u32 {
@@ -16,44 +22,48 @@ fn mixed(x: u32) -> u32 {
     b ^ (b << 5)
 }
 
-/// The draws of one sheet: number `k` of them, below `end`.
-struct Draws(u32);
+/// The draws of one sheet, each by its number.
+struct Draws {
+    sheet: u32,
+}
 
 impl Draws {
-    fn draw(&self, k: u32, end: u32) -> u32 {
-        let a = mixed(self.0.wrapping_add(0x9E37_79B9));
-        let b = mixed(a.wrapping_add(k));
+    fn below(&self, end: u32, number: usize) -> u32 {
+        let a = mixed(self.sheet.wrapping_add(2_654_435_769));
+        let b = mixed(a.wrapping_add(number as u32));
         let c = mixed(b.wrapping_add(2_246_822_507));
         (c >> 8) % end
     }
 
-    /// A member of `items`, which rise and are at most `n`: the first going round from a drawn one.
-    fn choose(&self, items: &[usize], n: usize, k: u32, end: u32) -> Option<usize> {
-        let drawn = self.draw(k, end) as usize;
-        (1..=n).rev().map(|i| 1 + (drawn + i) % n).find(|v| items.contains(v))
+    /// One of some nodes: the first going round from a drawn one.
+    fn choose(&self, nodes: &[usize], number: usize) -> Option<usize> {
+        let drawn = self.below(31, number) as usize;
+        (1..=31).rev().map(|i| 1 + (drawn + i) % 31).find(|v| nodes.contains(v))
     }
 
     /// The numbers 1 to n in a random order, from entry 1 on.
-    fn shuffled(&self, k: u32, n: usize) -> Vec<usize> {
+    fn shuffled(&self, n: usize) -> Vec<usize> {
         let mut out = vec![0; n + 1];
         for i in 1..=n {
-            let j = 1 + self.draw(k + i as u32, i as u32) as usize;
+            let j = 1 + self.below(i as u32, 200 + i) as usize;
             out[i] = out[j];
             out[j] = i;
         }
         out
     }
 
-    fn cost(&self, k: u32) -> u32 {
-        match self.draw(k, 8) {
+    fn cost(&self, number: usize) -> usize {
+        let cost = match self.below(8, number) {
             0 => 0,
-            1 => self.draw(k + 1, 100),
-            _ => 1 + self.draw(k + 1, 4),
-        }
+            1 => self.below(100, number + 10),
+            _ => 1 + self.below(4, number + 10),
+        };
+        cost as usize
     }
 }
 
-/// A network that grows; `open` lineages may still become reticulations.
+/// A network that grows, from entry 1 on; `open` lineages may still receive a transfer.
+#[derive(Default)]
 struct Network {
     principal: Vec<usize>,
     secondary: Vec<usize>,
@@ -64,26 +74,17 @@ struct Network {
 
 impl Network {
     fn grow(draws: &Draws) -> Network {
-        let zeros = || vec![0; 2];
-        let mut network = Network {
-            principal: zeros(),
-            secondary: zeros(),
-            stamp: vec![0; 2],
-            live: vec![1],
-            open: vec![],
-        };
-        let events = draws.draw(1, 16);
-        let willing = draws.draw(2, 4);
-        for time in 0..events {
-            let n = network.nodes();
-            let v = draws.choose(&network.live, n, 100 + time, 32).expect("a lineage");
+        let mut network =
+            Network { principal: vec![0], secondary: vec![0], stamp: vec![0], ..Network::default() };
+        network.start(0);
+        let willing = draws.below(4, 2);
+        for time in 0..draws.below(16, 1) {
+            let number = time as usize;
+            let v = draws.choose(&network.live, 100 + number).expect("a lineage");
             let others: Vec<usize> = network.open.iter().copied().filter(|&w| w != v).collect();
-            let receiver = draws.choose(&others, n, 120 + time, 32);
-            let transfers = network.secondary.iter().filter(|&&s| s != 0).count();
-            match receiver {
-                Some(w) if transfers < MOST_TRANSFERS && draws.draw(140 + time, 4) <= willing => {
-                    network.transfer(v, w, time)
-                }
+            let full = network.secondary.iter().filter(|&&s| s != 0).count() == MOST_TRANSFERS;
+            match draws.choose(&others, 120 + number) {
+                Some(w) if !full && draws.below(4, 140 + number) <= willing => network.transfer(v, w, time),
                 _ => network.split(v, time),
             }
         }
@@ -95,10 +96,10 @@ impl Network {
     }
 
     /// A new lineage below v.
-    fn lineage(&mut self, v: usize) -> usize {
+    fn start(&mut self, v: usize) -> usize {
         self.principal.push(v);
         self.secondary.push(0);
-        self.stamp.push(0);
+        self.stamp.push(TODAY);
         self.live.push(self.nodes());
         self.nodes()
     }
@@ -112,7 +113,7 @@ impl Network {
     fn split(&mut self, v: usize, time: u32) {
         self.end(v, time);
         for _ in 0..2 {
-            let child = self.lineage(v);
+            let child = self.start(v);
             self.open.push(child);
         }
     }
@@ -121,79 +122,59 @@ impl Network {
         self.end(v, time);
         self.end(w, time);
         self.secondary[w] = v;
-        // The other child of w's parent must not be a reticulation too.
-        let parent = self.principal[w];
-        let siblings: Vec<usize> = (1..=self.nodes()).filter(|&x| self.principal[x] == parent).collect();
-        self.open.retain(|x| !siblings.contains(x));
-        self.lineage(v);
-        self.lineage(w);
+        // The parent of w must keep a child that is no reticulation.
+        let (principal, parent) = (&self.principal, self.principal[w]);
+        self.open.retain(|&x| principal[x] != parent);
+        self.start(v);
+        self.start(w);
+    }
+
+    /// The children of each node under a setting whose lowest bit is the highest-numbered reticulation's.
+    fn children(&self, setting: u32) -> Vec<Vec<usize>> {
+        let (mut children, mut bits) = (vec![vec![]; self.nodes() + 1], setting);
+        for v in (1..=self.nodes()).rev() {
+            let reticulation = self.secondary[v] != 0;
+            let on = if reticulation && bits % 2 == 1 { self.secondary[v] } else { self.principal[v] };
+            children[on].insert(0, v);
+            bits /= if reticulation { 2 } else { 1 };
+        }
+        children
     }
 }
 
-/// Parents and species from entry 1 on; inner genes have species 0.
+/// Parents and leaves from entry 1 on; an inner gene has no leaf.
 struct GeneTree {
     parents: Vec<usize>,
-    species: Vec<usize>,
+    leaves: Vec<Option<usize>>,
 }
 
 impl GeneTree {
-    /// A tree of any shape, each gene at a free slot of a gene before it, with leaves of any species.
-    fn of_any_shape(draws: &Draws, network: &Network, species: impl Fn(usize) -> usize) -> GeneTree {
-        let m = 1 + 2 * draws.draw(3, 8) as usize;
-        let mut parents = vec![0];
-        let mut slots: Vec<usize> = vec![];
-        for g in 1..=m {
-            let parent = draws.choose(&slots, m, 300 + g as u32, 32);
-            if let Some(at) = slots.iter().position(|&q| Some(q) == parent) {
-                slots.remove(at);
-            }
-            parents.push(parent.unwrap_or(0));
-            let fits = slots.len() + 2 <= m - g;
-            if fits && (slots.is_empty() || draws.draw(340 + g as u32, 2) == 0) {
-                slots.extend([g, g]);
-            }
-        }
-        let spread = if draws.draw(4, 3) == 0 { 3 } else { 32 };
-        let leaf = |g: usize| {
-            draws.choose(&network.live, network.nodes(), 380 + g as u32, spread).expect("a leaf")
-        };
-        let species =
-            (0..=m).map(|g| if g == 0 || parents.contains(&g) { 0 } else { species(leaf(g)) }).collect();
-        GeneTree { parents, species }
-    }
-
-    /// A tree that follows the network under a random setting, with some losses and duplications.
-    fn following(draws: &Draws, network: &Network, species: impl Fn(usize) -> usize) -> GeneTree {
-        let up = |v: usize| match network.secondary[v] {
-            0 => network.principal[v],
-            _ if draws.draw(420 + v as u32, 2) == 0 => network.principal[v],
-            secondary => secondary,
-        };
-        let children = |v: usize| (1..=network.nodes()).filter(|&w| up(w) == v).collect::<Vec<_>>();
-        let (mut tree, mut starts) = (GeneTree { parents: vec![0; 2], species: vec![0] }, vec![0, 1]);
+    /// Genes go down the network, with some losses, duplications and leaves elsewhere.
+    fn descend(draws: &Draws, network: &Network) -> GeneTree {
+        let children = network.children(draws.below(64, 3));
+        let mut tree = GeneTree { parents: vec![0, 0], leaves: vec![None] };
+        let mut starts = vec![0, 1];
         let mut g = 1;
         while g < starts.len() {
-            let room = starts.len() - 1 < MOST_GENES;
+            let room = starts.len() - 1 < MANY_GENES;
             let mut v = starts[g];
             let parted = loop {
-                let fate = draws.draw(32 * g as u32 + 500 + v as u32, 16);
-                match (children(v).as_slice(), fate) {
-                    ([], _) => break None,
-                    (&[a], _) | (&[a, _], 0) => v = a,
+                match (children[v].as_slice(), draws.below(16, 32 * g + 500 + v)) {
+                    (&[], _) => break None,
                     (&[_, b], 1) => v = b,
-                    (&[a, b], _) if room => break Some((a, b)),
-                    (&[a, _], _) => v = a,
-                    _ => unreachable!("a node has at most two on arcs"),
+                    (&[a, b], 2..) if room => break Some([a, b]),
+                    (arcs, _) => v = arcs[0],
                 }
             };
-            tree.species.push(if parted.is_none() { species(v) } else { 0 });
-            if let Some((a, b)) = parted {
+            let elsewhere = parted.is_none() && draws.below(6, 300 + g) == 0;
+            tree.leaves.push(match parted {
+                Some(_) => None,
+                None if elsewhere => draws.choose(&network.live, 340 + g),
+                None => Some(v),
+            });
+            if let Some(arcs) = parted {
                 tree.parents.extend([g, g]);
-                starts.extend(match draws.draw(1600 + g as u32, 8) {
-                    0 => [v, v],
-                    2 | 4 | 6 => [b, a],
-                    _ => [a, b],
-                });
+                starts.extend(if draws.below(8, 380 + g) == 0 { [v, v] } else { arcs });
             }
             g += 1;
         }
@@ -205,42 +186,38 @@ fn line(numbers: [usize; 5]) -> String {
     numbers.map(|x| format!("{x:6}")).concat() + "\n"
 }
 
-pub fn text(sheet: u32) -> Vec<u8> {
-    let draws = Draws(sheet);
+fn text(sheet: u32) -> Vec<u8> {
+    let draws = Draws { sheet };
     let network = Network::grow(&draws);
-    let n = network.nodes();
-    let (names, numbers) = (draws.shuffled(200, n), draws.shuffled(240, n));
-    let species = |v: usize| if network.live.contains(&v) { 1 + 997 * names[v] } else { 0 };
-    let GeneTree { parents, species: kinds } = match draws.draw(9, 3) {
-        0 => GeneTree::of_any_shape(&draws, &network, species),
-        _ => GeneTree::following(&draws, &network, species),
-    };
-    let m = parents.len() - 1;
-    let [d, t, l] = [10, 12, 14].map(|k| draws.cost(k) as usize);
+    let tree = GeneTree::descend(&draws, &network);
+    let (n, m) = (network.nodes(), tree.parents.len() - 1);
+    let numbers = draws.shuffled(n);
+    let species = |leaf: usize| 1 + 100 * (13 * numbers[leaf] % 32);
     let mut lines = vec![String::new(); 1 + n + m];
-    lines[0] = line([n, m, d, t, l]);
+    lines[0] = line([n, m, draws.cost(10), draws.cost(11), draws.cost(12)]);
     for v in 1..=n {
-        let stamp = if network.live.contains(&v) { TODAY } else { network.stamp[v] };
         let (p, s) = (numbers[network.principal[v]], numbers[network.secondary[v]]);
-        lines[numbers[v]] = line([numbers[v], p, s, stamp as usize, species(v)]);
+        let kind = if network.live.contains(&v) { species(v) } else { 0 };
+        lines[numbers[v]] = line([numbers[v], p, s, network.stamp[v] as usize, kind]);
     }
     for g in 1..=m {
-        lines[n + g] = line([g, parents[g], kinds[g], 0, 0]);
+        lines[n + g] = line([g, tree.parents[g], tree.leaves[g].map_or(0, species), 0, 0]);
     }
     let mut text = lines.concat().into_bytes();
-    damage(&draws, &mut text, n as u32);
+    damage(&draws, &mut text);
     text
 }
 
-fn damage(draws: &Draws, text: &mut [u8], n: u32) {
-    let kind = draws.draw(5, 20);
+fn damage(draws: &Draws, text: &mut [u8]) {
+    let kind = draws.below(20, 5);
+    let line = 31 * draws.below(text.len() as u32 / 31, 6) as usize;
+    let field = 6 * draws.below(5, 7) as usize;
+    let other = draws.below(32, 8);
     if kind < 2 {
-        let at = 31 * draws.draw(6, text.len() as u32 / 31) + 6 * draws.draw(7, 5);
-        let field = format!("{:6}", draws.draw(8, n + 3));
-        text[at as usize..][..6].copy_from_slice(field.as_bytes());
+        text[line + field..][..6].copy_from_slice(format!("{other:6}").as_bytes());
     }
     if kind == 2 {
-        text[draws.draw(6, text.len() as u32) as usize] = b' ' + draws.draw(7, 32) as u8;
+        text[line + other as usize % 31] = b' ' + other as u8;
     }
 }
 
@@ -263,13 +240,12 @@ impl Counts {
             Answer::Report(bytes) => {
                 let sheet = Sheet::read(text).ok().expect("a scored sheet can be read");
                 let settled = enumeration::settle(&sheet);
-                let table = &scratch[..settled.table.len()];
                 self.scored += 1;
                 self.settings += 1 << enumeration::reticulations(&sheet);
                 self.secondary += u32::from(settled.setting.contains(&true));
                 self.ties += u32::from(settled.cheapest > 1);
                 self.costs += settled.cost;
-                self.mismatches += u32::from(result[..bytes] != settled.report || table != settled.table);
+                self.mismatches += u32::from(result[..bytes] != settled.report);
             }
             Answer::Refused(refusal) => {
                 self.refused += 1;

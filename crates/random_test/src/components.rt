@@ -1,100 +1,101 @@
 // Components by the definition: an arc is cut if its ends are parted without it, and a component is topped by the root or by the end of a cut arc.
+use super::board::Board;
+use super::board::HEADER;
+use super::board::NODES;
+use super::board::PRINCIPAL;
+use super::board::SECONDARY;
+use super::board::TOP;
+use super::board::add;
+use super::board::get;
+use super::board::occurrences;
+use super::board::set;
 use super::settings::settings;
-use super::tables::add;
-use super::tables::get;
-use super::tables::one_unless;
-use super::tables::set;
 
-// An arc between a and b joins both to what is seen, if one of them is; b may be no node.
-fn join(seen: &mut [u32; 32], a: u32, b: u32) {
-    if b == 0 {
+// What is seen from a node: a row of a board of its own.
+const SEEN: u32 = 0;
+
+// The arc from a parent to w shows each of its ends to the other; parent 0 is none.
+fn join(seen: &mut Board, parent: u32, w: u32) {
+    if parent == 0 || get(seen, SEEN, parent) == get(seen, SEEN, w) {
         return;
     }
-    if add(get(seen, a), get(seen, b)) != 0 {
-        set(seen, a, 1);
-        set(seen, b, 1);
-    }
+    set(seen, SEEN, parent, 1);
+    set(seen, SEEN, w, 1);
 }
 
-fn principal_but(principal: &[u32; 32], cut: u32, w: u32) -> u32 {
-    if w == cut {
-        return 0;
-    }
-    get(principal, w)
-}
-
-fn join_all(seen: &mut [u32; 32], n: u32, principal: &[u32; 32], secondary: &[u32; 32], cut: u32) {
-    let mut w = n;
+// All arcs but the principal one into `cut`.
+fn join_all(seen: &mut Board, t: &Board, cut: u32) {
+    let mut w = get(t, HEADER, NODES);
     while 0 < w {
-        join(seen, w, principal_but(principal, cut, w));
-        join(seen, w, get(secondary, w));
+        if w != cut {
+            join(seen, get(t, PRINCIPAL, w), w);
+        }
+        join(seen, get(t, SECONDARY, w), w);
         w -= 1;
     }
 }
 
-// Whether the principal arc into v is all that joins it to its parent.
-fn is_cut(n: u32, principal: &[u32; 32], secondary: &[u32; 32], v: u32) -> bool {
-    let mut seen = [0u32; 32];
-    set(&mut seen, v, 1);
-    let mut left = n;
+// Whether the principal arc into v is all that joins it to its parent; the root has no parent, which is not seen.
+fn is_cut(t: &Board, v: u32) -> bool {
+    let mut seen = [0u32; 1024];
+    set(&mut seen, SEEN, v, 1);
+    let mut left = get(t, HEADER, NODES);
     while 0 < left {
-        join_all(&mut seen, n, principal, secondary, v);
+        join_all(&mut seen, t, v);
         left -= 1;
     }
-    get(&seen, get(principal, v)) == 0
+    get(&seen, SEEN, get(t, PRINCIPAL, v)) == 0
 }
 
-// The top of v's component: entry 0 of what is seen is 0, so the root is a top too.
-fn top(n: u32, principal: &[u32; 32], secondary: &[u32; 32], v: u32) -> u32 {
+fn top(t: &Board, v: u32) -> u32 {
     let mut a = v;
-    let mut left = n;
+    let mut left: u32 = 32;
     while 0 < left {
-        if is_cut(n, principal, secondary, a) {
+        if is_cut(t, a) {
             return a;
         }
-        a = get(principal, a);
+        a = get(t, PRINCIPAL, a);
         left -= 1;
     }
     a
 }
 
-// For each reticulation the top of its component.
-pub fn tops(n: u32, principal: &[u32; 32], secondary: &[u32; 32]) -> [u32; 32] {
-    let mut out = [0u32; 32];
-    let mut v = n;
+// Writes the tops of all reticulations.
+pub fn find_tops(t: &mut Board) {
+    let mut v = get(t, HEADER, NODES);
     while 0 < v {
-        if get(secondary, v) != 0 {
-            set(&mut out, v, top(n, principal, secondary, v));
+        if get(t, SECONDARY, v) != 0 {
+            let a = top(t, v);
+            set(t, TOP, v, a);
         }
         v -= 1;
     }
-    out
 }
 
-// What a component adds to the trials, given its reticulations.
-fn trials_of(reticulations: u32) -> u32 {
+// The components with a reticulation, and the trials of all of them.
+pub struct Sizes {
+    pub components: u32,
+    pub trials: u32,
+}
+
+fn with_component(sizes: Sizes, reticulations: u32) -> Sizes {
     if reticulations == 0 {
-        return 0;
+        return sizes;
     }
-    settings(reticulations)
+    Sizes {
+        components: add(sizes.components, 1),
+        trials: add(sizes.trials, settings(reticulations)),
+    }
 }
 
-pub fn trials(n: u32, tops: &[u32; 32]) -> u32 {
-    let mut r: u32 = 0;
-    let mut v = n;
+pub fn add_up(t: &Board) -> Sizes {
+    let mut r = Sizes {
+        components: 0,
+        trials: 0,
+    };
+    let mut v = get(t, HEADER, NODES);
     while 0 < v {
-        r = add(r, trials_of(super::tables::occurrences(tops, v)));
-        v -= 1;
-    }
-    r
-}
-
-// How many components have a reticulation.
-pub fn count(n: u32, tops: &[u32; 32]) -> u32 {
-    let mut r: u32 = 0;
-    let mut v = n;
-    while 0 < v {
-        r = add(r, one_unless(super::tables::occurrences(tops, v), 0));
+        r = with_component(r, occurrences(t, TOP, v));
         v -= 1;
     }
     r

@@ -1,150 +1,147 @@
 // Random sheets, each scored by the entry and compared with an enumeration of all settings written apart from the crates under test: its own reading of
-// the sheet, its own placement, costs, components and whole-network table, its own spelling of the report. The counts expected are those of the
+// the sheet, its own placement, costs and components, its own spelling of the report. The whole-network cost is taken as reported. The counts expected are those of the
 // independent implementation (compare/run --random-test), which makes the same sheets.
+mod board;
 mod components;
 mod draws;
 mod families;
 mod gene_trees;
-mod models;
 mod networks;
 mod reports;
 mod settings;
-mod tables;
 mod text;
-mod whole;
 
+use board::Board;
+use board::GENES;
+use board::HEADER;
+use board::KIND;
+use board::MOTHER;
+use board::NODES;
+use board::PRINCIPAL;
+use board::SECONDARY;
+use board::SPECIES;
+use board::add;
+use board::get;
+use board::set;
+use board::times;
 use score::Answer;
-use tables::add;
-use tables::one_unless;
-use tables::times;
-use tables::wide;
+use text::Text;
 ghost use Prim.Native.Nat.{_≤_};
 
 const STDOUT: i32 = 1;
 
-const SHEETS: u32 = 400;
+const SHEETS: u32 = 1000;
 
-// What was counted on some sheets: those scored and refused, the refusal numbers added up, the settings enumerated, the sheets whose best setting has a
-// secondary arc on, those with several cheapest settings, the costs added up, the sheets on which anything differs.
-struct Counts {
-    scored: u32,
-    refused: u32,
-    numbers: u32,
-    settings: u32,
-    secondary: u32,
-    ties: u32,
-    costs: u32,
-    mismatches: u32,
+// Counts, in one row of a board: sheets scored and refused, refusal numbers added up, settings enumerated, sheets whose best setting has a secondary arc
+// on, sheets with several cheapest settings, costs added up, sheets on which anything differs.
+const COUNTS: u32 = 0;
+
+const SCORED: u32 = 0;
+
+const REFUSED: u32 = 1;
+
+const NUMBERS: u32 = 2;
+
+const SETTINGS: u32 = 3;
+
+const SWITCHED: u32 = 4;
+
+const TIES: u32 = 5;
+
+const COSTS: u32 = 6;
+
+const MISMATCHES: u32 = 7;
+
+fn count(counts: &mut Board, i: u32, by: u32) {
+    let x = add(get(counts, COUNTS, i), by);
+    set(counts, COUNTS, i, x);
 }
 
-fn sum(a: Counts, b: Counts) -> Counts {
-    Counts {
-        scored: add(a.scored, b.scored),
-        refused: add(a.refused, b.refused),
-        numbers: add(a.numbers, b.numbers),
-        settings: add(a.settings, b.settings),
-        secondary: add(a.secondary, b.secondary),
-        ties: add(a.ties, b.ties),
-        costs: add(a.costs, b.costs),
-        mismatches: add(a.mismatches, b.mismatches),
+fn count_if(counts: &mut Board, i: u32, yes: bool) {
+    if yes {
+        count(counts, i, 1);
     }
-}
-
-fn one_if_not(good: bool) -> u32 {
-    if good {
-        return 0;
-    }
-    1
 }
 
 // A refusal leaves result and scratch as they were.
-fn refused(k: u32, result: &[u8; 5952], scratch: &[u32; 16129]) -> Counts {
-    let none = [0u8; 1953];
-    let good = reports::same_bytes(result, &none, 0) && reports::untouched(scratch, 0);
-    Counts {
-        scored: 0,
-        refused: 1,
-        numbers: k,
-        settings: 0,
-        secondary: 0,
-        ties: 0,
-        costs: 0,
-        mismatches: one_if_not(good),
-    }
+fn refused(counts: &mut Board, k: u32, result: &Text, scratch: &[u32; 16129]) {
+    let good = reports::same_bytes(result, &[reports::BYTE; 5952])
+        && reports::untouched(scratch, 0);
+    count(counts, REFUSED, 1);
+    count(counts, NUMBERS, k);
+    count_if(counts, MISMATCHES, !good);
 }
 
-// The report and the table against the enumeration and the clauses.
-fn reported(
-    sheet: &[u8; 1953],
-    length: usize,
-    result: &[u8; 5952],
-    scratch: &[u32; 16129],
-) -> Counts {
-    let model = models::read(sheet);
-    let n = model.n;
-    let m = model.m;
-    let best = settings::enumerate(model);
-    let least = whole::table(model);
-    let mut text = [0u8; 1953];
-    let bytes = reports::spell_report(&mut text, model, best, whole::cost(&least, n));
-    let right = length == wide(bytes) && reports::same_bytes(result, &text, bytes);
-    let filled = reports::same_rows(scratch, &least, n, m)
-        && reports::untouched(scratch, times(n, m));
-    Counts {
-        scored: 1,
-        refused: 0,
-        numbers: 0,
-        settings: settings::settings(model.reticulations),
-        secondary: one_unless(best.setting, 0),
-        ties: one_unless(best.equals, 1),
-        costs: best.cost,
-        mismatches: one_if_not(right && filled),
-    }
+// The sheet's numbers, read from its bytes.
+fn read(sheet: &Text) -> Board {
+    let mut t = [0u32; 1024];
+    let n = text::number(sheet, 0, NODES);
+    let m = text::number(sheet, 0, GENES);
+    text::read_header(&mut t, sheet);
+    text::read(&mut t, PRINCIPAL, sheet, 0, n, 1);
+    text::read(&mut t, SECONDARY, sheet, 0, n, 2);
+    text::read(&mut t, SPECIES, sheet, 0, n, 4);
+    text::read(&mut t, MOTHER, sheet, n, m, 1);
+    text::read(&mut t, KIND, sheet, n, m, 2);
+    t
 }
 
-fn scored(text: [u8; 1953], bytes: usize) -> Counts
-    requires { ⌜ bytes ≤ 1953 ⌝ }
+// Whether the report is the one on the setting that is on, with nothing written after it, nor after the words of the whole-network table.
+fn right(t: &Board, cost: u32, length: usize, result: &Text, scratch: &[u32; 16129]) -> bool {
+    let mut expected = [reports::BYTE; 5952];
+    let bytes = reports::spell_report(&mut expected, t, cost, text::number(result, 1, 0));
+    let words = times(get(t, HEADER, NODES), get(t, HEADER, GENES));
+    length == bytes as usize
+        && reports::same_bytes(result, &expected)
+        && reports::untouched(scratch, words)
+}
+
+fn scored(counts: &mut Board, sheet: &Text, length: usize, result: &Text, scratch: &[u32; 16129]) {
+    let mut t = read(sheet);
+    let all = settings::settings(board::reticulations(&t));
+    let best = settings::enumerate(&mut t, all);
+    let cost = settings::try_setting(&mut t, best.setting);
+    components::find_tops(&mut t);
+    let good = right(&t, cost, length, result, scratch);
+    count(counts, SCORED, 1);
+    count(counts, SETTINGS, all);
+    count_if(counts, SWITCHED, best.setting != 0);
+    count_if(counts, TIES, best.equals != 1);
+    count(counts, COSTS, cost);
+    count_if(counts, MISMATCHES, !good);
+}
+
+fn score_text(counts: &mut Board, text: Text, bytes: usize)
+    requires { ⌜ bytes ≤ 5952 ⌝ }
 {
     let mut result = [reports::BYTE; 5952];
     let mut scratch = [reports::WORD; 16129];
     let answer = score::score(&text[..bytes], &mut result, &mut scratch);
     match answer {
-        Answer::Report(length) => reported(&text, length, &result, &scratch),
-        Answer::Refused(k) => refused(k, &result, &scratch),
+        Answer::Report(length) => {
+            scored(counts, &text, length, &result, &scratch);
+        }
+        Answer::Refused(k) => {
+            refused(counts, k, &result, &scratch);
+        }
     }
 }
 
-fn tried(sheet: u32) -> Counts {
-    let mut text = [0u8; 1953];
+fn try_sheet(counts: &mut Board, sheet: u32) {
+    let mut text = [0u8; 5952];
     let lines = families::spell_sheet(&mut text, sheet);
-    let bytes = wide(times(31, lines));
-    if bytes <= 1953 {
-        return scored(text, bytes);
-    }
-    no_counts()
-}
-
-fn no_counts() -> Counts {
-    Counts {
-        scored: 0,
-        refused: 0,
-        numbers: 0,
-        settings: 0,
-        secondary: 0,
-        ties: 0,
-        costs: 0,
-        mismatches: 0,
+    let bytes = times(31, lines) as usize;
+    if bytes <= 5952 {
+        score_text(counts, text, bytes);
     }
 }
 
-fn all_sheets() -> Counts {
-    let mut counts = no_counts();
+fn try_all(counts: &mut Board) {
     let mut sheet = SHEETS;
     while 0 < sheet {
-        counts = sum(counts, tried(sheet));
+        try_sheet(counts, sheet);
         sheet -= 1;
     }
-    counts
 }
 
 // A name in ten columns and a number in six.
@@ -157,14 +154,15 @@ fn show(name: &[u8; 10], x: u32) {
 }
 
 fn main() {
-    let counts = all_sheets();
+    let mut counts = [0u32; 1024];
+    try_all(&mut counts);
     show(b"sheets    ", SHEETS);
-    show(b"scored    ", counts.scored);
-    show(b"refused   ", counts.refused);
-    show(b"numbers   ", counts.numbers);
-    show(b"settings  ", counts.settings);
-    show(b"secondary ", counts.secondary);
-    show(b"ties      ", counts.ties);
-    show(b"costs     ", counts.costs);
-    show(b"mismatches", counts.mismatches);
+    show(b"scored    ", get(&counts, COUNTS, SCORED));
+    show(b"refused   ", get(&counts, COUNTS, REFUSED));
+    show(b"numbers   ", get(&counts, COUNTS, NUMBERS));
+    show(b"settings  ", get(&counts, COUNTS, SETTINGS));
+    show(b"secondary ", get(&counts, COUNTS, SWITCHED));
+    show(b"ties      ", get(&counts, COUNTS, TIES));
+    show(b"costs     ", get(&counts, COUNTS, COSTS));
+    show(b"mismatches", get(&counts, COUNTS, MISMATCHES));
 }

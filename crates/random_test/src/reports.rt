@@ -1,152 +1,120 @@
-// The report that has to come out for a model, spelled by this program, and the comparison with what was written.
-use super::components::count;
-use super::components::tops;
-use super::components::trials;
-use super::models::Model;
-use super::settings::Best;
-use super::settings::marks;
-use super::settings::parents;
-use super::settings::placed;
-use super::tables::add;
-use super::tables::get;
-use super::tables::occurrences;
-use super::tables::times;
-use super::tables::total;
-use super::tables::wide;
+// The report that has to come out, spelled by this program, and comparisons with what was written.
+use super::board::Board;
+use super::board::EVENT;
+use super::board::GENES;
+use super::board::HEADER;
+use super::board::LOSSES;
+use super::board::NODES;
+use super::board::ON;
+use super::board::PLACE;
+use super::board::SECONDARY;
+use super::board::TOP;
+use super::board::TRANSFERS;
+use super::board::UP;
+use super::board::add;
+use super::board::get;
+use super::board::occurrences;
+use super::board::reticulations;
+use super::board::times;
+use super::board::total;
+use super::components::add_up;
+use super::settings::DUPLICATED;
+use super::text::Text;
 use super::text::byte;
 use super::text::spell;
-use super::whole::at;
 
 // What result and scratch are filled with before a sheet is scored.
 pub const BYTE: u8 = 170;
 
 pub const WORD: u32 = 2863311530;
 
-fn spell_reticulations(
-    text: &mut [u8; 1953],
-    n: u32,
-    up: &[u32; 32],
-    on: &[u32; 32],
-    secondary: &[u32; 32],
-    tops: &[u32; 32],
-) -> u32 {
-    let mut line: u32 = 2;
-    let mut v: u32 = 0;
-    while v < n {
-        v += 1;
-        line = spell_reticulation(text, line, v, up, on, secondary, tops);
-    }
-    line
-}
-
-fn spell_reticulation(
-    text: &mut [u8; 1953],
-    line: u32,
-    v: u32,
-    up: &[u32; 32],
-    on: &[u32; 32],
-    secondary: &[u32; 32],
-    tops: &[u32; 32],
-) -> u32 {
-    if get(secondary, v) == 0 {
+// The line of node v, if it is a reticulation; returns the line after it.
+fn spell_reticulation(text: &mut Text, line: u32, t: &Board, v: u32) -> u32 {
+    if get(t, SECONDARY, v) == 0 {
         return line;
     }
-    let top = get(tops, v);
+    let top = get(t, TOP, v);
     spell(
         text,
         line,
         v,
-        get(up, v),
-        get(on, v),
+        get(t, UP, v),
+        get(t, ON, v),
         top,
-        occurrences(tops, top),
+        occurrences(t, TOP, top),
     );
     add(line, 1)
 }
 
-fn spell_genes(
-    text: &mut [u8; 1953],
-    first: u32,
-    m: u32,
-    place: &[u32; 32],
-    event: &[u32; 32],
-    transfers: &[u32; 32],
-    losses: &[u32; 32],
-) {
-    let mut g = m;
+fn spell_reticulations(text: &mut Text, first: u32, t: &Board) -> u32 {
+    let n = get(t, HEADER, NODES);
+    let mut line = first;
+    let mut v: u32 = 0;
+    while v < n {
+        v += 1;
+        line = spell_reticulation(text, line, t, v);
+    }
+    line
+}
+
+fn spell_gene(text: &mut Text, line: u32, t: &Board, g: u32) {
+    let e = get(t, EVENT, g);
+    spell(
+        text,
+        line,
+        g,
+        get(t, PLACE, g),
+        e,
+        get(t, TRANSFERS, g),
+        get(t, LOSSES, g),
+    );
+}
+
+fn spell_genes(text: &mut Text, first: u32, t: &Board) {
+    let mut g = get(t, HEADER, GENES);
     while 0 < g {
-        let line = add(first, g - 1);
-        spell(
-            text,
-            line,
-            g,
-            get(place, g),
-            get(event, g),
-            get(transfers, g),
-            get(losses, g),
-        );
+        spell_gene(text, add(first, g - 1), t, g);
         g -= 1;
     }
 }
 
-// Spells the report and returns how many bytes it has.
-pub fn spell_report(text: &mut [u8; 1953], model: Model, best: Best, whole: u32) -> u32 {
-    let principal = model.principal;
-    let secondary = model.secondary;
-    let n = model.n;
-    let on = marks(n, &secondary, best.setting);
-    let up = parents(n, &principal, &secondary, &on);
-    let tops = tops(n, &principal, &secondary);
-    let genes = placed(model, best.setting);
-    let place = genes.place;
-    let event = genes.event;
-    let transfers = genes.transfers;
-    let losses = genes.losses;
-    let duplications = occurrences(&event, 2);
+fn spell_totals(text: &mut Text, t: &Board, cost: u32, whole: u32) {
+    let sizes = add_up(t);
+    let d = occurrences(t, EVENT, DUPLICATED);
     spell(
         text,
         0,
-        best.cost,
-        duplications,
-        total(&transfers),
-        total(&losses),
-        trials(n, &tops),
+        cost,
+        d,
+        total(t, TRANSFERS),
+        total(t, LOSSES),
+        sizes.trials,
     );
+    let n = get(t, HEADER, NODES);
     spell(
         text,
         1,
         whole,
         n,
-        model.m,
-        model.reticulations,
-        count(n, &tops),
+        get(t, HEADER, GENES),
+        reticulations(t),
+        sizes.components,
     );
-    let line = spell_reticulations(text, n, &up, &on, &secondary, &tops);
-    spell_genes(text, line, model.m, &place, &event, &transfers, &losses);
-    times(31, add(line, model.m))
 }
 
-// What the result must have at a place.
-fn expected(text: &[u8; 1953], bytes: u32, k: u32) -> u8 {
-    if k < bytes {
-        return byte(text, k);
-    }
-    BYTE
+// Spells the report on the setting that is on, and returns how many bytes it has.
+pub fn spell_report(text: &mut Text, t: &Board, cost: u32, whole: u32) -> u32 {
+    spell_totals(text, t, cost, whole);
+    let line = spell_reticulations(text, 2, t);
+    spell_genes(text, line, t);
+    times(31, add(line, get(t, HEADER, GENES)))
 }
 
-fn result_byte(result: &[u8; 5952], k: u32) -> u8 {
-    let i = wide(k);
-    if i < 5952 {
-        return result[i];
-    }
-    0
-}
-
-// Whether the result is the text's first bytes and untouched from there on.
-pub fn same_bytes(result: &[u8; 5952], text: &[u8; 1953], bytes: u32) -> bool {
+// Whether the result is what was spelled on what it was filled with.
+pub fn same_bytes(result: &Text, text: &Text) -> bool {
     let mut k: u32 = 0;
     while k < 5952 {
-        if result_byte(result, k) != expected(text, bytes, k) {
+        if byte(result, k) != byte(text, k) {
             return false;
         }
         k += 1;
@@ -155,38 +123,11 @@ pub fn same_bytes(result: &[u8; 5952], text: &[u8; 1953], bytes: u32) -> bool {
 }
 
 fn word(scratch: &[u32; 16129], k: u32) -> u32 {
-    let i = wide(k);
+    let i = k as usize;
     if i < 16129 {
         return scratch[i];
     }
     0
-}
-
-// Whether gene g's words, from `first` on, are what the table has.
-fn same_row(scratch: &[u32; 16129], first: u32, least: &[u32; 1024], n: u32, g: u32) -> bool {
-    let mut v: u32 = 0;
-    while v < n {
-        let k = add(first, v);
-        v += 1;
-        if word(scratch, k) != at(least, g, v) {
-            return false;
-        }
-    }
-    true
-}
-
-// Whether the scratch holds the table, row after row.
-pub fn same_rows(scratch: &[u32; 16129], least: &[u32; 1024], n: u32, m: u32) -> bool {
-    let mut first: u32 = 0;
-    let mut g: u32 = 0;
-    while g < m {
-        g += 1;
-        if !same_row(scratch, first, least, n, g) {
-            return false;
-        }
-        first = add(first, n);
-    }
-    true
 }
 
 // Whether the scratch is untouched from a word on.

@@ -1,17 +1,21 @@
-// Lines of five fields in six columns each, spelled and read by this program's own rules, in a text of at most 63 lines.
-use super::tables::add;
-use super::tables::wide;
+// Lines of five fields in six columns each, spelled and read by this program's own rules.
+use super::board::Board;
+use super::board::HEADER;
+use super::board::add;
+use super::board::set;
 
-pub fn set_byte(text: &mut [u8; 1953], at: u32, byte: u8) {
-    let k = wide(at);
-    if k < 1953 {
+pub type Text = [u8; 5952];
+
+pub fn set_byte(text: &mut Text, at: u32, byte: u8) {
+    let k = at as usize;
+    if k < 5952 {
         text[k] = byte;
     }
 }
 
-pub fn byte(text: &[u8; 1953], at: u32) -> u8 {
-    let k = wide(at);
-    if k < 1953 {
+pub fn byte(text: &Text, at: u32) -> u8 {
+    let k = at as usize;
+    if k < 5952 {
         return text[k];
     }
     0
@@ -19,12 +23,7 @@ pub fn byte(text: &[u8; 1953], at: u32) -> u8 {
 
 // Where a field begins; field 5 is the line feed.
 fn place(line: u32, field: u32) -> u32 {
-    if line < 100 {
-        if field < 6 {
-            return 31 * line + 6 * field;
-        }
-    }
-    0
+    31 * (line % 192) + 6 * (field % 6)
 }
 
 // The byte of a column, given what is left of the number there: a space in front of the number, but the last column has a digit.
@@ -37,7 +36,7 @@ fn column(rest: u32, at: u32) -> u8 {
     b'0' + (rest % 10) as u8
 }
 
-pub fn spell_field(text: &mut [u8; 1953], line: u32, field: u32, x: u32) {
+pub fn spell_field(text: &mut Text, line: u32, field: u32, x: u32) {
     let start = place(line, field);
     let mut rest = x;
     let mut at: u32 = 6;
@@ -48,7 +47,7 @@ pub fn spell_field(text: &mut [u8; 1953], line: u32, field: u32, x: u32) {
     }
 }
 
-pub fn spell(text: &mut [u8; 1953], line: u32, a: u32, b: u32, c: u32, d: u32, e: u32) {
+pub fn spell(text: &mut Text, line: u32, a: u32, b: u32, c: u32, d: u32, e: u32) {
     spell_field(text, line, 0, a);
     spell_field(text, line, 1, b);
     spell_field(text, line, 2, c);
@@ -62,13 +61,10 @@ fn with_column(x: u32, byte: u8) -> u32 {
     if byte < b'0' {
         return x;
     }
-    if x < 100000 {
-        return 10 * x + (byte - b'0') as u32;
-    }
-    x
+    10 * (x % 100000) + (byte - b'0') as u32
 }
 
-pub fn number(text: &[u8; 1953], line: u32, field: u32) -> u32 {
+pub fn number(text: &Text, line: u32, field: u32) -> u32 {
     let start = place(line, field);
     let mut x: u32 = 0;
     let mut at: u32 = 0;
@@ -79,13 +75,20 @@ pub fn number(text: &[u8; 1953], line: u32, field: u32) -> u32 {
     x
 }
 
-// Entry i is a field of the i-th of `count` lines after line `first`.
-pub fn fields(text: &[u8; 1953], first: u32, count: u32, field: u32) -> [u32; 32] {
-    let mut out = [0u32; 32];
+// The numbers of the first line.
+pub fn read_header(t: &mut Board, text: &Text) {
+    let mut field: u32 = 0;
+    while field < 5 {
+        set(t, HEADER, field, number(text, 0, field));
+        field += 1;
+    }
+}
+
+// A row from a field of the `count` lines after line `first`.
+pub fn read(t: &mut Board, row: u32, text: &Text, first: u32, count: u32, field: u32) {
     let mut i = count;
     while 0 < i {
-        super::tables::set(&mut out, i, number(text, add(first, i), field));
+        set(t, row, i, number(text, add(first, i), field));
         i -= 1;
     }
-    out
 }

@@ -6,13 +6,16 @@ use Rattle.random_test.proofs.components.is_cut.Statement.{statement}
 use Rattle.random_test.proofs.components.is_cut.Tie as tie
 
 abbrev Inv-loop : tie.InvT-loop
-Inv-loop n principal secondary v seen₀ left₀ seen left = left ≤ left₀
+Inv-loop t v seen₀ left₀ seen left = left ≤ left₀
 
 abbrev μ-loop : tie.MeasureT-loop
-μ-loop n principal secondary v seen₀ left₀ seen left = left
+μ-loop t v seen₀ left₀ seen left = left
 
 set-requires : tie.Need-set-requires Inv-loop μ-loop
 set-requires c κs = search needs
+
+get-requires : tie.Need-get-requires Inv-loop μ-loop
+get-requires c κs = search needs
 
 loop-holds : tie.Need-loop-holds Inv-loop μ-loop
 loop-holds c = search needs
@@ -29,11 +32,11 @@ loop-less c = search needs
 loop-again : tie.Need-loop-again Inv-loop μ-loop
 loop-again c = search needs
 
-get-requires : tie.Need-get-requires Inv-loop μ-loop
-get-requires c κs = search needs
-
 get-requires-2 : tie.Need-get-requires-2 Inv-loop μ-loop
 get-requires-2 c κs = search needs
+
+get-requires-3 : tie.Need-get-requires-3 Inv-loop μ-loop
+get-requires-3 c κs = search needs
 
 returns : tie.Need-returns Inv-loop μ-loop
 returns c = search needs
@@ -45,11 +48,12 @@ is-cut-spec =
     Inv-loop
     μ-loop
     set-requires
+    get-requires
     loop-holds
     join-all-requires
     sub-left
     loop-less
     loop-again
-    get-requires
     get-requires-2
+    get-requires-3
     returns)

@@ -6,22 +6,25 @@ use Rattle.random_test.proofs.components.join_all.Statement.{statement}
 use Rattle.random_test.proofs.components.join_all.Tie as tie
 
 abbrev Inv-loop : tie.InvT-loop
-Inv-loop seen₀ n principal secondary cut w₀ seen w = w ≤ w₀
+Inv-loop seen₀ t cut w₀ seen w = w ≤ w₀
 
 abbrev μ-loop : tie.MeasureT-loop
-μ-loop seen₀ n principal secondary cut w₀ seen w = w
+μ-loop seen₀ t cut w₀ seen w = w
+
+get-requires : tie.Need-get-requires Inv-loop μ-loop
+get-requires c κs = search needs
 
 loop-holds : tie.Need-loop-holds Inv-loop μ-loop
 loop-holds c = search needs
 
-principal-but-requires : tie.Need-principal-but-requires Inv-loop μ-loop
-principal-but-requires c κs = search needs
+get-requires-2 : tie.Need-get-requires-2 Inv-loop μ-loop
+get-requires-2 c κs = search needs
 
 join-requires : tie.Need-join-requires Inv-loop μ-loop
 join-requires c κs = search needs
 
-get-requires : tie.Need-get-requires Inv-loop μ-loop
-get-requires c κs = search needs
+get-requires-3 : tie.Need-get-requires-3 Inv-loop μ-loop
+get-requires-3 c κs = search needs
 
 join-requires-2 : tie.Need-join-requires-2 Inv-loop μ-loop
 join-requires-2 c κs = search needs
@@ -44,10 +47,11 @@ join-all-spec =
     (tie.spec
     Inv-loop
     μ-loop
-    loop-holds
-    principal-but-requires
-    join-requires
     get-requires
+    loop-holds
+    get-requires-2
+    join-requires
+    get-requires-3
     join-requires-2
     sub-w
     loop-less

@@ -6,10 +6,10 @@ use Rattle.random_test.proofs.components.top.Statement.{statement}
 use Rattle.random_test.proofs.components.top.Tie as tie
 
 abbrev Inv-loop : tie.InvT-loop
-Inv-loop n principal secondary v a₀ left₀ a left = left ≤ left₀
+Inv-loop t v a₀ left₀ a left = left ≤ left₀
 
 abbrev μ-loop : tie.MeasureT-loop
-μ-loop n principal secondary v a₀ left₀ a left = left
+μ-loop t v a₀ left₀ a left = left
 
 loop-holds : tie.Need-loop-holds Inv-loop μ-loop
 loop-holds c = search needs

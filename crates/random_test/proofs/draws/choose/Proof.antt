@@ -6,19 +6,16 @@ use Rattle.random_test.proofs.draws.choose.Statement.{statement}
 use Rattle.random_test.proofs.draws.choose.Tie as tie
 
 abbrev Inv-loop : tie.InvT-loop
-Inv-loop xs n drawn i₀ i = i ≤ i₀
+Inv-loop t row but drawn i₀ i = i ≤ i₀
 
 abbrev μ-loop : tie.MeasureT-loop
-μ-loop xs n drawn i₀ i = i
+μ-loop t row but drawn i₀ i = i
 
 loop-holds : tie.Need-loop-holds Inv-loop μ-loop
 loop-holds c = search needs
 
 add-requires : tie.Need-add-requires Inv-loop μ-loop
 add-requires c κs = search needs
-
-remainder-requires : tie.Need-remainder-requires Inv-loop μ-loop
-remainder-requires c κs = search needs
 
 add-requires-2 : tie.Need-add-requires-2 Inv-loop μ-loop
 add-requires-2 c κs = search needs
@@ -49,7 +46,6 @@ choose-spec =
     μ-loop
     loop-holds
     add-requires
-    remainder-requires
     add-requires-2
     get-requires
     returns

@@ -6,10 +6,10 @@ use Rattle.random_test.proofs.families.spell_genes.Statement.{statement
 use Rattle.random_test.proofs.families.spell_genes.Tie as tie
 
 abbrev Inv-loop : tie.InvT-loop
-Inv-loop text₀ n mother kind g₀ text g = g ≤ g₀
+Inv-loop text₀ t n m g₀ text g = g ≤ g₀
 
 abbrev μ-loop : tie.MeasureT-loop
-μ-loop text₀ n mother kind g₀ text g = g
+μ-loop text₀ t n m g₀ text g = g
 
 loop-holds : tie.Need-loop-holds Inv-loop μ-loop
 loop-holds c = search needs

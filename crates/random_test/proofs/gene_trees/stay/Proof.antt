@@ -6,10 +6,13 @@ use Rattle.random_test.proofs.gene_trees.stay.Statement.{statement}
 use Rattle.random_test.proofs.gene_trees.stay.Tie as tie
 
 abbrev Inv-loop : tie.InvT-loop
-Inv-loop sheet up g start room v₀ left₀ v left = left ≤ left₀
+Inv-loop t sheet g v₀ left₀ v left = left ≤ left₀
 
 abbrev μ-loop : tie.MeasureT-loop
-μ-loop sheet up g start room v₀ left₀ v left = left
+μ-loop t sheet g v₀ left₀ v left = left
+
+get-requires : tie.Need-get-requires Inv-loop μ-loop
+get-requires c κs = search needs
 
 loop-holds : tie.Need-loop-holds Inv-loop μ-loop
 loop-holds c = search needs
@@ -38,6 +41,7 @@ stay-spec =
     (tie.spec
     Inv-loop
     μ-loop
+    get-requires
     loop-holds
     next-requires
     returns

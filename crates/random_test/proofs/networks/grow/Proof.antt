@@ -6,10 +6,13 @@ use Rattle.random_test.proofs.networks.grow.Statement.{statement}
 use Rattle.random_test.proofs.networks.grow.Tie as tie
 
 abbrev Inv-loop : tie.InvT-loop
-Inv-loop sheet events willing net₀ time₀ net time = time₀ ≤ time
+Inv-loop t₀ sheet willing events time₀ t time = time₀ ≤ time
 
 abbrev μ-loop : tie.MeasureT-loop
-μ-loop sheet events willing net₀ time₀ net time = events - time
+μ-loop t₀ sheet willing events time₀ t time = events - time
+
+start-requires : tie.Need-start-requires Inv-loop μ-loop
+start-requires c κs = search needs
 
 draw-requires : tie.Need-draw-requires Inv-loop μ-loop
 draw-requires c κs = search needs
@@ -17,14 +20,11 @@ draw-requires c κs = search needs
 draw-requires-2 : tie.Need-draw-requires-2 Inv-loop μ-loop
 draw-requires-2 c κs = search needs
 
-root-requires : tie.Need-root-requires Inv-loop μ-loop
-root-requires c κs = search needs
-
 loop-holds : tie.Need-loop-holds Inv-loop μ-loop
 loop-holds c = search needs
 
-grown-requires : tie.Need-grown-requires Inv-loop μ-loop
-grown-requires c κs = search needs
+step-requires : tie.Need-step-requires Inv-loop μ-loop
+step-requires c κs = search needs
 
 add-time : tie.Need-add-time Inv-loop μ-loop
 add-time c = search needs
@@ -44,11 +44,11 @@ grow-spec =
     (tie.spec
     Inv-loop
     μ-loop
+    start-requires
     draw-requires
     draw-requires-2
-    root-requires
     loop-holds
-    grown-requires
+    step-requires
     add-time
     loop-less
     loop-again

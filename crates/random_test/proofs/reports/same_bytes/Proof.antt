@@ -6,19 +6,19 @@ use Rattle.random_test.proofs.reports.same_bytes.Statement.{statement}
 use Rattle.random_test.proofs.reports.same_bytes.Tie as tie
 
 abbrev Inv-loop : tie.InvT-loop
-Inv-loop result text bytes k₀ k = k₀ ≤ k
+Inv-loop result text k₀ k = k₀ ≤ k
 
 abbrev μ-loop : tie.MeasureT-loop
-μ-loop result text bytes k₀ k = 5952 - k
+μ-loop result text k₀ k = 5952 - k
 
 loop-holds : tie.Need-loop-holds Inv-loop μ-loop
 loop-holds c = search needs
 
-result-byte-requires : tie.Need-result-byte-requires Inv-loop μ-loop
-result-byte-requires c κs = search needs
+byte-requires : tie.Need-byte-requires Inv-loop μ-loop
+byte-requires c κs = search needs
 
-expected-requires : tie.Need-expected-requires Inv-loop μ-loop
-expected-requires c κs = search needs
+byte-requires-2 : tie.Need-byte-requires-2 Inv-loop μ-loop
+byte-requires-2 c κs = search needs
 
 returns : tie.Need-returns Inv-loop μ-loop
 returns c = search needs
@@ -42,8 +42,8 @@ same-bytes-spec =
     Inv-loop
     μ-loop
     loop-holds
-    result-byte-requires
-    expected-requires
+    byte-requires
+    byte-requires-2
     returns
     add-k
     loop-less

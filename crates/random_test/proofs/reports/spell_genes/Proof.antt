@@ -6,10 +6,13 @@ use Rattle.random_test.proofs.reports.spell_genes.Statement.{statement}
 use Rattle.random_test.proofs.reports.spell_genes.Tie as tie
 
 abbrev Inv-loop : tie.InvT-loop
-Inv-loop text₀ first m place event transfers losses g₀ text g = g ≤ g₀
+Inv-loop text₀ first t g₀ text g = g ≤ g₀
 
 abbrev μ-loop : tie.MeasureT-loop
-μ-loop text₀ first m place event transfers losses g₀ text g = g
+μ-loop text₀ first t g₀ text g = g
+
+get-requires : tie.Need-get-requires Inv-loop μ-loop
+get-requires c κs = search needs
 
 loop-holds : tie.Need-loop-holds Inv-loop μ-loop
 loop-holds c = search needs
@@ -20,20 +23,8 @@ sub-add c = search needs
 add-requires : tie.Need-add-requires Inv-loop μ-loop
 add-requires c κs = search needs
 
-get-requires : tie.Need-get-requires Inv-loop μ-loop
-get-requires c κs = search needs
-
-get-requires-2 : tie.Need-get-requires-2 Inv-loop μ-loop
-get-requires-2 c κs = search needs
-
-get-requires-3 : tie.Need-get-requires-3 Inv-loop μ-loop
-get-requires-3 c κs = search needs
-
-get-requires-4 : tie.Need-get-requires-4 Inv-loop μ-loop
-get-requires-4 c κs = search needs
-
-spell-requires : tie.Need-spell-requires Inv-loop μ-loop
-spell-requires c κs = search needs
+spell-gene-requires : tie.Need-spell-gene-requires Inv-loop μ-loop
+spell-gene-requires c κs = search needs
 
 sub-g : tie.Need-sub-g Inv-loop μ-loop
 sub-g c = search needs
@@ -53,14 +44,11 @@ spell-genes-spec =
     (tie.spec
     Inv-loop
     μ-loop
+    get-requires
     loop-holds
     sub-add
     add-requires
-    get-requires
-    get-requires-2
-    get-requires-3
-    get-requires-4
-    spell-requires
+    spell-gene-requires
     sub-g
     loop-less
     loop-again

@@ -6,10 +6,13 @@ use Rattle.random_test.proofs.reports.spell_reticulations.Statement.{st
 use Rattle.random_test.proofs.reports.spell_reticulations.Tie as tie
 
 abbrev Inv-loop : tie.InvT-loop
-Inv-loop text₀ n up on secondary tops line₀ v₀ text line v = v₀ ≤ v
+Inv-loop text₀ first t n line₀ v₀ text line v = v₀ ≤ v
 
 abbrev μ-loop : tie.MeasureT-loop
-μ-loop text₀ n up on secondary tops line₀ v₀ text line v = n - v
+μ-loop text₀ first t n line₀ v₀ text line v = n - v
+
+get-requires : tie.Need-get-requires Inv-loop μ-loop
+get-requires c κs = search needs
 
 loop-holds : tie.Need-loop-holds Inv-loop μ-loop
 loop-holds c = search needs
@@ -35,6 +38,7 @@ spell-reticulations-spec =
     (tie.spec
     Inv-loop
     μ-loop
+    get-requires
     loop-holds
     add-v
     spell-reticulation-requires

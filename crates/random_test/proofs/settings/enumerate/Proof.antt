@@ -6,22 +6,16 @@ use Rattle.random_test.proofs.settings.enumerate.Statement.{statement}
 use Rattle.random_test.proofs.settings.enumerate.Tie as tie
 
 abbrev Inv-loop : tie.InvT-loop
-Inv-loop model all best₀ x₀ best x = x₀ ≤ x
+Inv-loop t₀ all best₀ x₀ t best x = x₀ ≤ x
 
 abbrev μ-loop : tie.MeasureT-loop
-μ-loop model all best₀ x₀ best x = all - x
-
-settings-requires : tie.Need-settings-requires Inv-loop μ-loop
-settings-requires c κs = search needs
+μ-loop t₀ all best₀ x₀ t best x = all - x
 
 loop-holds : tie.Need-loop-holds Inv-loop μ-loop
 loop-holds c = search needs
 
-placed-requires : tie.Need-placed-requires Inv-loop μ-loop
-placed-requires c κs = search needs
-
-cost-requires : tie.Need-cost-requires Inv-loop μ-loop
-cost-requires c κs = search needs
+try-setting-requires : tie.Need-try-setting-requires Inv-loop μ-loop
+try-setting-requires c κs = search needs
 
 better-requires : tie.Need-better-requires Inv-loop μ-loop
 better-requires c κs = search needs
@@ -44,10 +38,8 @@ enumerate-spec =
     (tie.spec
     Inv-loop
     μ-loop
-    settings-requires
     loop-holds
-    placed-requires
-    cost-requires
+    try-setting-requires
     better-requires
     add-x
     loop-less

@@ -6,10 +6,10 @@ use Rattle.random_test.proofs.settings.sends.Statement.{statement}
 use Rattle.random_test.proofs.settings.sends.Tie as tie
 
 abbrev Inv-loop : tie.InvT-loop
-Inv-loop up on v w₀ w = w ≤ w₀
+Inv-loop t v w₀ w = w ≤ w₀
 
 abbrev μ-loop : tie.MeasureT-loop
-μ-loop up on v w₀ w = w
+μ-loop t v w₀ w = w
 
 loop-holds : tie.Need-loop-holds Inv-loop μ-loop
 loop-holds c = search needs

@@ -6,31 +6,28 @@ use Rattle.random_test.proofs.settings.transfers.Statement.{statement}
 use Rattle.random_test.proofs.settings.transfers.Tie as tie
 
 abbrev Inv-loop : tie.InvT-loop
-Inv-loop up on m mother place out₀ g₀ out g = g ≤ g₀
+Inv-loop t p x r₀ a₀ left₀ r a left = left ≤ left₀
 
 abbrev μ-loop : tie.MeasureT-loop
-μ-loop up on m mother place out₀ g₀ out g = g
+μ-loop t p x r₀ a₀ left₀ r a left = left
 
 loop-holds : tie.Need-loop-holds Inv-loop μ-loop
 loop-holds c = search needs
 
+returns : tie.Need-returns Inv-loop μ-loop
+returns c = search needs
+
 get-requires : tie.Need-get-requires Inv-loop μ-loop
 get-requires c κs = search needs
+
+add-requires : tie.Need-add-requires Inv-loop μ-loop
+add-requires c κs = search needs
 
 get-requires-2 : tie.Need-get-requires-2 Inv-loop μ-loop
 get-requires-2 c κs = search needs
 
-get-requires-3 : tie.Need-get-requires-3 Inv-loop μ-loop
-get-requires-3 c κs = search needs
-
-transfers-between-requires : tie.Need-transfers-between-requires Inv-loop μ-loop
-transfers-between-requires c κs = search needs
-
-set-requires : tie.Need-set-requires Inv-loop μ-loop
-set-requires c κs = search needs
-
-sub-g : tie.Need-sub-g Inv-loop μ-loop
-sub-g c = search needs
+sub-left : tie.Need-sub-left Inv-loop μ-loop
+sub-left c = search needs
 
 loop-less : tie.Need-loop-less Inv-loop μ-loop
 loop-less c = search needs
@@ -38,8 +35,8 @@ loop-less c = search needs
 loop-again : tie.Need-loop-again Inv-loop μ-loop
 loop-again c = search needs
 
-returns : tie.Need-returns Inv-loop μ-loop
-returns c = search needs
+returns-2 : tie.Need-returns-2 Inv-loop μ-loop
+returns-2 c = search needs
 
 pub transfers-spec : {M : Type 1} → statement M
 transfers-spec =
@@ -48,12 +45,11 @@ transfers-spec =
     Inv-loop
     μ-loop
     loop-holds
+    returns
     get-requires
+    add-requires
     get-requires-2
-    get-requires-3
-    transfers-between-requires
-    set-requires
-    sub-g
+    sub-left
     loop-less
     loop-again
-    returns)
+    returns-2)
