@@ -5,13 +5,10 @@ use crate::enumeration;
 use crate::reference::sheet::Sheet;
 use crate::reference::{self, Answer, RESULT_BYTES, SCRATCH_WORDS};
 
-const SHEETS: u32 = 1000;
+const SHEETS: u32 = 10_000;
 
 /// The most reticulations of a network.
 const MOST_TRANSFERS: usize = 6;
-
-/// With this many genes no more part.
-const MANY_GENES: usize = 22;
 
 /// The stamp of leaves.
 const TODAY: u32 = 50;
@@ -22,22 +19,37 @@ fn mixed(x: u32) -> u32 {
     b ^ (b << 5)
 }
 
-/// The draws of one sheet, each by its number.
+/// What draws are for; what becomes of gene g at a node is for 32 + g.
+const SHAPE: usize = 0;
+const DAMAGE: usize = 1;
+const COST_KIND: usize = 2;
+const COST: usize = 3;
+const SHUFFLE: usize = 4;
+const LINEAGE: usize = 5;
+const RECEIVER: usize = 6;
+const WILL: usize = 7;
+const STRAY: usize = 8;
+const STRAY_LEAF: usize = 9;
+const COPY: usize = 10;
+const FATES: usize = 32;
+
+/// The draws of one sheet.
 struct Draws {
     sheet: u32,
 }
 
 impl Draws {
-    fn below(&self, end: u32, number: usize) -> u32 {
+    /// Draw i of those for one purpose.
+    fn below(&self, end: u32, purpose: usize, i: usize) -> u32 {
         let a = mixed(self.sheet.wrapping_add(2_654_435_769));
-        let b = mixed(a.wrapping_add(number as u32));
+        let b = mixed(a.wrapping_add((32 * purpose + i) as u32));
         let c = mixed(b.wrapping_add(2_246_822_507));
         (c >> 8) % end
     }
 
     /// One of some nodes: the first going round from a drawn one.
-    fn choose(&self, nodes: &[usize], number: usize) -> Option<usize> {
-        let drawn = self.below(31, number) as usize;
+    fn choose(&self, nodes: &[usize], purpose: usize, i: usize) -> Option<usize> {
+        let drawn = self.below(31, purpose, i) as usize;
         (1..=31).rev().map(|i| 1 + (drawn + i) % 31).find(|v| nodes.contains(v))
     }
 
@@ -45,18 +57,18 @@ impl Draws {
     fn shuffled(&self, n: usize) -> Vec<usize> {
         let mut out = vec![0; n + 1];
         for i in 1..=n {
-            let j = 1 + self.below(i as u32, 200 + i) as usize;
+            let j = 1 + self.below(i as u32, SHUFFLE, i) as usize;
             out[i] = out[j];
             out[j] = i;
         }
         out
     }
 
-    fn cost(&self, number: usize) -> usize {
-        let cost = match self.below(8, number) {
+    fn cost(&self, i: usize) -> usize {
+        let cost = match self.below(8, COST_KIND, i) {
             0 => 0,
-            1 => self.below(100, number + 10),
-            _ => 1 + self.below(4, number + 10),
+            1 => self.below(100, COST, i),
+            _ => 1 + self.below(4, COST, i),
         };
         cost as usize
     }
@@ -77,14 +89,14 @@ impl Network {
         let mut network =
             Network { principal: vec![0], secondary: vec![0], stamp: vec![0], ..Network::default() };
         network.start(0);
-        let willing = draws.below(4, 2);
-        for time in 0..draws.below(16, 1) {
-            let number = time as usize;
-            let v = draws.choose(&network.live, 100 + number).expect("a lineage");
+        let willing = draws.below(4, SHAPE, 0);
+        for time in 0..draws.below(16, SHAPE, 1) {
+            let i = time as usize;
+            let v = draws.choose(&network.live, LINEAGE, i).expect("a lineage");
             let others: Vec<usize> = network.open.iter().copied().filter(|&w| w != v).collect();
             let full = network.secondary.iter().filter(|&&s| s != 0).count() == MOST_TRANSFERS;
-            match draws.choose(&others, 120 + number) {
-                Some(w) if !full && draws.below(4, 140 + number) <= willing => network.transfer(v, w, time),
+            match draws.choose(&others, RECEIVER, i) {
+                Some(w) if !full && draws.below(4, WILL, i) <= willing => network.transfer(v, w, time),
                 _ => network.split(v, time),
             }
         }
@@ -151,30 +163,31 @@ struct GeneTree {
 impl GeneTree {
     /// Genes go down the network, with some losses, duplications and leaves elsewhere.
     fn descend(draws: &Draws, network: &Network) -> GeneTree {
-        let children = network.children(draws.below(64, 3));
+        let children = network.children(draws.below(64, SHAPE, 2));
+        let enough = draws.below(23, SHAPE, 3) as usize;
         let mut tree = GeneTree { parents: vec![0, 0], leaves: vec![None] };
         let mut starts = vec![0, 1];
         let mut g = 1;
         while g < starts.len() {
-            let room = starts.len() - 1 < MANY_GENES;
+            let room = starts.len() - 1 < enough;
             let mut v = starts[g];
             let parted = loop {
-                match (children[v].as_slice(), draws.below(16, 32 * g + 500 + v)) {
+                match (children[v].as_slice(), draws.below(16, FATES + g, v)) {
                     (&[], _) => break None,
                     (&[_, b], 1) => v = b,
                     (&[a, b], 2..) if room => break Some([a, b]),
                     (arcs, _) => v = arcs[0],
                 }
             };
-            let elsewhere = parted.is_none() && draws.below(6, 300 + g) == 0;
+            let elsewhere = parted.is_none() && draws.below(2, STRAY, g) == 0;
             tree.leaves.push(match parted {
                 Some(_) => None,
-                None if elsewhere => draws.choose(&network.live, 340 + g),
+                None if elsewhere => draws.choose(&network.live, STRAY_LEAF, g),
                 None => Some(v),
             });
             if let Some(arcs) = parted {
                 tree.parents.extend([g, g]);
-                starts.extend(if draws.below(8, 380 + g) == 0 { [v, v] } else { arcs });
+                starts.extend(if draws.below(8, COPY, g) == 0 { [v, v] } else { arcs });
             }
             g += 1;
         }
@@ -194,7 +207,8 @@ fn text(sheet: u32) -> Vec<u8> {
     let numbers = draws.shuffled(n);
     let species = |leaf: usize| 1 + 100 * (13 * numbers[leaf] % 32);
     let mut lines = vec![String::new(); 1 + n + m];
-    lines[0] = line([n, m, draws.cost(10), draws.cost(11), draws.cost(12)]);
+    let transfer = if draws.below(2, SHAPE, 4) == 0 { 0 } else { draws.cost(1) };
+    lines[0] = line([n, m, draws.cost(0), transfer, draws.cost(2)]);
     for v in 1..=n {
         let (p, s) = (numbers[network.principal[v]], numbers[network.secondary[v]]);
         let kind = if network.live.contains(&v) { species(v) } else { 0 };
@@ -209,10 +223,10 @@ fn text(sheet: u32) -> Vec<u8> {
 }
 
 fn damage(draws: &Draws, text: &mut [u8]) {
-    let kind = draws.below(20, 5);
-    let line = 31 * draws.below(text.len() as u32 / 31, 6) as usize;
-    let field = 6 * draws.below(5, 7) as usize;
-    let other = draws.below(32, 8);
+    let kind = draws.below(20, DAMAGE, 0);
+    let line = 31 * draws.below(text.len() as u32 / 31, DAMAGE, 1) as usize;
+    let field = 6 * draws.below(5, DAMAGE, 2) as usize;
+    let other = draws.below(32, DAMAGE, 3);
     if kind < 2 {
         text[line + field..][..6].copy_from_slice(format!("{other:6}").as_bytes());
     }

@@ -9,9 +9,10 @@ use super::board::NUMBER;
 use super::board::PRINCIPAL;
 use super::board::SECONDARY;
 use super::board::STAMP;
-use super::board::add;
 use super::board::get;
 use super::board::times;
+use super::draws::DAMAGE;
+use super::draws::SHAPE;
 use super::draws::cost;
 use super::draws::draw;
 use super::draws::shuffle;
@@ -23,6 +24,7 @@ use super::text::Text;
 use super::text::set_byte;
 use super::text::spell;
 use super::text::spell_field;
+use super::text::start_of;
 
 // The line of node v, by the nodes' numbers on the sheet.
 fn spell_node(text: &mut Text, t: &Board, v: u32) {
@@ -43,24 +45,31 @@ fn spell_nodes(text: &mut Text, t: &Board, n: u32) {
 fn spell_genes(text: &mut Text, t: &Board, n: u32, m: u32) {
     let mut g = m;
     while 0 < g {
-        spell(text, add(n, g), g, get(t, MOTHER, g), get(t, KIND, g), 0, 0);
+        spell(
+            text,
+            n % 32 + g % 32,
+            g,
+            get(t, MOTHER, g),
+            get(t, KIND, g),
+            0,
+            0,
+        );
         g -= 1;
     }
 }
 
 // One sheet in ten gets another number in one field, and one in twenty another byte.
 fn damage(text: &mut Text, sheet: u32, lines: u32) {
-    let kind = draw(sheet, 5, 20);
-    let line = draw(sheet, 6, lines);
-    let field = draw(sheet, 7, 5);
-    let other = draw(sheet, 8, 32);
+    let kind = draw(sheet, DAMAGE, 0, 20);
+    let line = draw(sheet, DAMAGE, 1, lines);
+    let other = draw(sheet, DAMAGE, 3, 32);
     if kind < 2 {
-        spell_field(text, line, field, other);
+        spell_field(text, line, draw(sheet, DAMAGE, 2, 5), other);
     }
     if kind == 2 {
         set_byte(
             text,
-            add(times(31, line), other % 31),
+            start_of(line, 0) + other % 31,
             b' ' + (other % 32) as u8,
         );
     }
@@ -72,21 +81,15 @@ pub fn spell_sheet(text: &mut Text, sheet: u32) -> u32 {
     grow(&mut t, sheet);
     let n = get(&t, HEADER, NODES);
     shuffle(&mut t, sheet, n);
-    turn(&mut t, draw(sheet, 3, 64));
+    turn(&mut t, draw(sheet, SHAPE, 2, 64));
     descend(&mut t, sheet);
     let m = get(&t, HEADER, GENES);
-    spell(
-        text,
-        0,
-        n,
-        m,
-        cost(sheet, 10),
-        cost(sheet, 11),
-        cost(sheet, 12),
-    );
+    // On half of the sheets a transfer is free: then settings with different arcs on tie.
+    let transfer = times(cost(sheet, 1), draw(sheet, SHAPE, 4, 2));
+    spell(text, 0, n, m, cost(sheet, 0), transfer, cost(sheet, 2));
     spell_nodes(text, &t, n);
     spell_genes(text, &t, n, m);
-    let lines = add(1, add(n, m));
+    let lines = 1 + n % 32 + m % 32;
     damage(text, sheet, lines);
     lines
 }

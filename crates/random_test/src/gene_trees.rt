@@ -1,4 +1,4 @@
-// A random gene tree: genes go down the network under a random setting, with some losses, duplications and leaves of other species.
+// A random gene tree: genes go down the network under a random setting, with losses, duplications and leaves of other species, until there are enough.
 use super::board::Board;
 use super::board::GENES;
 use super::board::HEADER;
@@ -8,37 +8,36 @@ use super::board::MOTHER;
 use super::board::NUMBER;
 use super::board::START;
 use super::board::UP;
-use super::board::add;
 use super::board::find;
 use super::board::get;
 use super::board::set;
-use super::board::times;
+use super::draws::COPY;
+use super::draws::SHAPE;
+use super::draws::STRAY;
+use super::draws::STRAY_LEAF;
 use super::draws::choose;
 use super::draws::draw;
-
-// With this many genes no more part.
-const MANY: u32 = 22;
 
 // The species of v, or 0 if it is no leaf. It is not the leaf's number, but tells it: 13 is odd, so no two of 32 numbers have the same.
 pub fn species(t: &Board, v: u32) -> u32 {
     if get(t, LIVE, v) == 0 {
         return 0;
     }
-    add(1, times(100, times(13, get(t, NUMBER, v)) % 32))
+    1 + 100 * (13 * (get(t, NUMBER, v) % 32) % 32)
 }
 
 // The child of v that gene g goes down to, or 0 if it stays: at a leaf always, at two arcs unless it loses a copy or has no room to part.
 fn next(t: &Board, sheet: u32, g: u32, v: u32) -> u32 {
     let a = find(t, UP, v, 0);
     let b = find(t, UP, v, a);
-    let fate = draw(sheet, add(times(32, g), add(500, v)), 16);
+    let fate = draw(sheet, 32 + g % 32, v, 16);
     if a == 0 || b == 0 || fate == 0 {
         return a;
     }
     if fate == 1 {
         return b;
     }
-    if get(t, HEADER, GENES) < MANY {
+    if get(t, HEADER, GENES) < draw(sheet, SHAPE, 3, 23) {
         return 0;
     }
     a
@@ -60,16 +59,16 @@ fn stay(t: &Board, sheet: u32, g: u32) -> u32 {
 }
 
 fn start(t: &mut Board, mother: u32, v: u32) {
-    let g = add(get(t, HEADER, GENES), 1);
+    let g = get(t, HEADER, GENES) % 32 + 1;
     set(t, HEADER, GENES, g);
     set(t, MOTHER, g, mother);
     set(t, START, g, v);
 }
 
-// The leaf where gene g ends: now and then another than the one that it came to.
+// The leaf where gene g ends: half of the genes stray from the one that they came to.
 fn leaf(t: &Board, sheet: u32, g: u32, v: u32) -> u32 {
-    if draw(sheet, add(300, g), 6) == 0 {
-        return choose(t, LIVE, 0, draw(sheet, add(340, g), 31));
+    if draw(sheet, STRAY, g, 2) == 0 {
+        return choose(t, LIVE, 0, draw(sheet, STRAY_LEAF, g, 31));
     }
     v
 }
@@ -83,7 +82,7 @@ fn settle(t: &mut Board, sheet: u32, g: u32) {
         set(t, KIND, g, x);
         return;
     }
-    if draw(sheet, add(380, g), 8) == 0 {
+    if draw(sheet, COPY, g, 8) == 0 {
         start(t, g, v);
         start(t, g, v);
         return;

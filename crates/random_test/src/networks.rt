@@ -8,10 +8,13 @@ use super::board::OPEN;
 use super::board::PRINCIPAL;
 use super::board::SECONDARY;
 use super::board::STAMP;
-use super::board::add;
 use super::board::get;
 use super::board::reticulations;
 use super::board::set;
+use super::draws::LINEAGE;
+use super::draws::RECEIVER;
+use super::draws::SHAPE;
+use super::draws::WILL;
 use super::draws::choose;
 use super::draws::draw;
 
@@ -23,7 +26,7 @@ const TODAY: u32 = 50;
 
 // A new lineage below v.
 fn start(t: &mut Board, v: u32, open: u32) {
-    let w = add(get(t, HEADER, NODES), 1);
+    let w = get(t, HEADER, NODES) % 32 + 1;
     set(t, HEADER, NODES, w);
     set(t, PRINCIPAL, w, v);
     set(t, STAMP, w, TODAY);
@@ -56,10 +59,10 @@ fn transfer(t: &mut Board, v: u32, w: u32, time: u32) {
 
 // What happens at a time: a split, or a transfer where there is a lineage to receive it.
 fn step(t: &mut Board, sheet: u32, time: u32, willing: u32) {
-    let v = choose(t, LIVE, 0, draw(sheet, add(100, time), 31));
-    let w = choose(t, OPEN, v, draw(sheet, add(120, time), 31));
-    let full = reticulations(t) == MOST;
-    if w == 0 || full || willing < draw(sheet, add(140, time), 4) {
+    let v = choose(t, LIVE, 0, draw(sheet, LINEAGE, time, 31));
+    let w = choose(t, OPEN, v, draw(sheet, RECEIVER, time, 31));
+    let will = draw(sheet, WILL, time, 4);
+    if w == 0 || willing < will || reticulations(t) == MOST {
         split(t, v, time);
         return;
     }
@@ -68,8 +71,8 @@ fn step(t: &mut Board, sheet: u32, time: u32, willing: u32) {
 
 pub fn grow(t: &mut Board, sheet: u32) {
     start(t, 0, 0);
-    let willing = draw(sheet, 2, 4);
-    let events = draw(sheet, 1, 16);
+    let willing = draw(sheet, SHAPE, 0, 4);
+    let events = draw(sheet, SHAPE, 1, 16);
     let mut time: u32 = 0;
     while time < events {
         step(t, sheet, time, willing);

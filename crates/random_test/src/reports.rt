@@ -11,17 +11,16 @@ use super::board::SECONDARY;
 use super::board::TOP;
 use super::board::TRANSFERS;
 use super::board::UP;
-use super::board::add;
 use super::board::get;
 use super::board::occurrences;
 use super::board::reticulations;
-use super::board::times;
 use super::board::total;
 use super::components::add_up;
 use super::settings::DUPLICATED;
 use super::text::Text;
 use super::text::byte;
 use super::text::spell;
+use super::text::start_of;
 
 // What result and scratch are filled with before a sheet is scored.
 pub const BYTE: u8 = 170;
@@ -43,7 +42,7 @@ fn spell_reticulation(text: &mut Text, line: u32, t: &Board, v: u32) -> u32 {
         top,
         occurrences(t, TOP, top),
     );
-    add(line, 1)
+    line % 64 + 1
 }
 
 fn spell_reticulations(text: &mut Text, first: u32, t: &Board) -> u32 {
@@ -73,7 +72,7 @@ fn spell_gene(text: &mut Text, line: u32, t: &Board, g: u32) {
 fn spell_genes(text: &mut Text, first: u32, t: &Board) {
     let mut g = get(t, HEADER, GENES);
     while 0 < g {
-        spell_gene(text, add(first, g - 1), t, g);
+        spell_gene(text, first % 64 + (g - 1) % 32, t, g);
         g -= 1;
     }
 }
@@ -107,7 +106,7 @@ pub fn spell_report(text: &mut Text, t: &Board, cost: u32, whole: u32) -> u32 {
     spell_totals(text, t, cost, whole);
     let line = spell_reticulations(text, 2, t);
     spell_genes(text, line, t);
-    times(31, add(line, get(t, HEADER, GENES)))
+    start_of(line % 64 + get(t, HEADER, GENES) % 32, 0)
 }
 
 // Whether the result is what was spelled on what it was filled with.

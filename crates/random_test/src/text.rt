@@ -1,8 +1,8 @@
 // Lines of five fields in six columns each, spelled and read by this program's own rules.
 use super::board::Board;
 use super::board::HEADER;
-use super::board::add;
 use super::board::set;
+ghost use Prim.Native.Nat.{_<_};
 
 pub type Text = [u8; 5952];
 
@@ -22,7 +22,9 @@ pub fn byte(text: &Text, at: u32) -> u8 {
 }
 
 // Where a field begins; field 5 is the line feed.
-fn place(line: u32, field: u32) -> u32 {
+pub fn start_of(line: u32, field: u32) -> u32
+    ensures { λ r. ⌜ r < 6000 ⌝ }
+{
     31 * (line % 192) + 6 * (field % 6)
 }
 
@@ -37,12 +39,12 @@ fn column(rest: u32, at: u32) -> u8 {
 }
 
 pub fn spell_field(text: &mut Text, line: u32, field: u32, x: u32) {
-    let start = place(line, field);
+    let start = start_of(line, field);
     let mut rest = x;
     let mut at: u32 = 6;
     while 0 < at {
         at -= 1;
-        set_byte(text, add(start, at), column(rest, at));
+        set_byte(text, start + at % 6, column(rest, at));
         rest = rest / 10;
     }
 }
@@ -53,7 +55,7 @@ pub fn spell(text: &mut Text, line: u32, a: u32, b: u32, c: u32, d: u32, e: u32)
     spell_field(text, line, 2, c);
     spell_field(text, line, 3, d);
     spell_field(text, line, 4, e);
-    set_byte(text, place(line, 5), b'\n');
+    set_byte(text, start_of(line, 5), b'\n');
 }
 
 // The number so far with one more column; a space adds nothing.
@@ -65,11 +67,11 @@ fn with_column(x: u32, byte: u8) -> u32 {
 }
 
 pub fn number(text: &Text, line: u32, field: u32) -> u32 {
-    let start = place(line, field);
+    let start = start_of(line, field);
     let mut x: u32 = 0;
     let mut at: u32 = 0;
     while at < 6 {
-        x = with_column(x, byte(text, add(start, at)));
+        x = with_column(x, byte(text, start + at));
         at += 1;
     }
     x
@@ -88,7 +90,7 @@ pub fn read_header(t: &mut Board, text: &Text) {
 pub fn read(t: &mut Board, row: u32, text: &Text, first: u32, count: u32, field: u32) {
     let mut i = count;
     while 0 < i {
-        set(t, row, i, number(text, add(first, i), field));
+        set(t, row, i, number(text, first % 64 + i % 64, field));
         i -= 1;
     }
 }

@@ -14,11 +14,11 @@ abbrev μ-loop : tie.MeasureT-loop
 loop-holds : tie.Need-loop-holds Inv-loop μ-loop
 loop-holds c = search needs
 
-add-requires : tie.Need-add-requires Inv-loop μ-loop
-add-requires c κs = search needs
+add-v : tie.Need-add-v Inv-loop μ-loop
+add-v c = search needs
 
-add-requires-2 : tie.Need-add-requires-2 Inv-loop μ-loop
-add-requires-2 c κs = search needs
+add-v-2 : tie.Need-add-v-2 Inv-loop μ-loop
+add-v-2 c = search needs
 
 get-requires : tie.Need-get-requires Inv-loop μ-loop
 get-requires c κs = search needs
@@ -45,8 +45,8 @@ choose-spec =
     Inv-loop
     μ-loop
     loop-holds
-    add-requires
-    add-requires-2
+    add-v
+    add-v-2
     get-requires
     returns
     sub-i

@@ -17,14 +17,11 @@ loop-holds c = search needs
 add-i : tie.Need-add-i Inv-loop μ-loop
 add-i c = search needs
 
-add-requires : tie.Need-add-requires Inv-loop μ-loop
-add-requires c κs = search needs
-
 draw-requires : tie.Need-draw-requires Inv-loop μ-loop
 draw-requires c κs = search needs
 
-add-requires-2 : tie.Need-add-requires-2 Inv-loop μ-loop
-add-requires-2 c κs = search needs
+add-j : tie.Need-add-j Inv-loop μ-loop
+add-j c = search needs
 
 get-requires : tie.Need-get-requires Inv-loop μ-loop
 get-requires c κs = search needs
@@ -52,9 +49,8 @@ shuffle-spec =
     μ-loop
     loop-holds
     add-i
-    add-requires
     draw-requires
-    add-requires-2
+    add-j
     get-requires
     set-requires
     set-requires-2

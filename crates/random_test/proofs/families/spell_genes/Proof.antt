@@ -14,8 +14,8 @@ abbrev μ-loop : tie.MeasureT-loop
 loop-holds : tie.Need-loop-holds Inv-loop μ-loop
 loop-holds c = search needs
 
-add-requires : tie.Need-add-requires Inv-loop μ-loop
-add-requires c κs = search needs
+add-spell : tie.Need-add-spell Inv-loop μ-loop
+add-spell c = search needs
 
 get-requires : tie.Need-get-requires Inv-loop μ-loop
 get-requires c κs = search needs
@@ -45,7 +45,7 @@ spell-genes-spec =
     Inv-loop
     μ-loop
     loop-holds
-    add-requires
+    add-spell
     get-requires
     get-requires-2
     spell-requires

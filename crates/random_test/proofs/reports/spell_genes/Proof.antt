@@ -17,11 +17,11 @@ get-requires c κs = search needs
 loop-holds : tie.Need-loop-holds Inv-loop μ-loop
 loop-holds c = search needs
 
-sub-add : tie.Need-sub-add Inv-loop μ-loop
-sub-add c = search needs
+sub-spell-gene : tie.Need-sub-spell-gene Inv-loop μ-loop
+sub-spell-gene c = search needs
 
-add-requires : tie.Need-add-requires Inv-loop μ-loop
-add-requires c κs = search needs
+add-spell-gene : tie.Need-add-spell-gene Inv-loop μ-loop
+add-spell-gene c = search needs
 
 spell-gene-requires : tie.Need-spell-gene-requires Inv-loop μ-loop
 spell-gene-requires c κs = search needs
@@ -46,8 +46,8 @@ spell-genes-spec =
     μ-loop
     get-requires
     loop-holds
-    sub-add
-    add-requires
+    sub-spell-gene
+    add-spell-gene
     spell-gene-requires
     sub-g
     loop-less

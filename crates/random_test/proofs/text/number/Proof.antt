@@ -11,14 +11,14 @@ Inv-loop text line field start x₀ at₀ x at = at₀ ≤ at
 abbrev μ-loop : tie.MeasureT-loop
 μ-loop text line field start x₀ at₀ x at = 6 - at
 
-place-requires : tie.Need-place-requires Inv-loop μ-loop
-place-requires c κs = search needs
+start-of-requires : tie.Need-start-of-requires Inv-loop μ-loop
+start-of-requires c κs = search needs
 
 loop-holds : tie.Need-loop-holds Inv-loop μ-loop
 loop-holds c = search needs
 
-add-requires : tie.Need-add-requires Inv-loop μ-loop
-add-requires c κs = search needs
+add-byte : tie.Need-add-byte Inv-loop μ-loop
+add-byte c = search needs
 
 byte-requires : tie.Need-byte-requires Inv-loop μ-loop
 byte-requires c κs = search needs
@@ -44,9 +44,9 @@ number-spec =
     (tie.spec
     Inv-loop
     μ-loop
-    place-requires
+    start-of-requires
     loop-holds
-    add-requires
+    add-byte
     byte-requires
     with-column-requires
     add-at

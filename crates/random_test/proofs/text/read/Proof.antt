@@ -14,8 +14,8 @@ abbrev μ-loop : tie.MeasureT-loop
 loop-holds : tie.Need-loop-holds Inv-loop μ-loop
 loop-holds c = search needs
 
-add-requires : tie.Need-add-requires Inv-loop μ-loop
-add-requires c κs = search needs
+add-number : tie.Need-add-number Inv-loop μ-loop
+add-number c = search needs
 
 number-requires : tie.Need-number-requires Inv-loop μ-loop
 number-requires c κs = search needs
@@ -42,7 +42,7 @@ read-spec =
     Inv-loop
     μ-loop
     loop-holds
-    add-requires
+    add-number
     number-requires
     set-requires
     sub-i

@@ -11,8 +11,8 @@ Inv-loop text₀ line field x start rest₀ at₀ text rest at = at ≤ at₀
 abbrev μ-loop : tie.MeasureT-loop
 μ-loop text₀ line field x start rest₀ at₀ text rest at = at
 
-place-requires : tie.Need-place-requires Inv-loop μ-loop
-place-requires c κs = search needs
+start-of-requires : tie.Need-start-of-requires Inv-loop μ-loop
+start-of-requires c κs = search needs
 
 loop-holds : tie.Need-loop-holds Inv-loop μ-loop
 loop-holds c = search needs
@@ -20,8 +20,8 @@ loop-holds c = search needs
 sub-at : tie.Need-sub-at Inv-loop μ-loop
 sub-at c = search needs
 
-add-requires : tie.Need-add-requires Inv-loop μ-loop
-add-requires c κs = search needs
+add-set-byte : tie.Need-add-set-byte Inv-loop μ-loop
+add-set-byte c = search needs
 
 column-requires : tie.Need-column-requires Inv-loop μ-loop
 column-requires c κs = search needs
@@ -44,10 +44,10 @@ spell-field-spec =
     (tie.spec
     Inv-loop
     μ-loop
-    place-requires
+    start-of-requires
     loop-holds
     sub-at
-    add-requires
+    add-set-byte
     column-requires
     set-byte-requires
     loop-less
