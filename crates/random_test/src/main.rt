@@ -32,25 +32,27 @@ const STDOUT: i32 = 1;
 
 const SHEETS: u32 = 10000;
 
-// Counts, in one row of a board: sheets scored and refused, refusal numbers added up, settings enumerated, sheets whose best setting has a secondary arc
+// Counts, in one row of a board: sheets made, scored and refused, refusal numbers added up, settings enumerated, sheets whose best setting has a secondary arc
 // on, sheets with several cheapest settings, costs added up, sheets on which anything differs.
 const COUNTS: u32 = 0;
 
-const SCORED: u32 = 0;
+const MADE: u32 = 0;
 
-const REFUSED: u32 = 1;
+const SCORED: u32 = 1;
 
-const NUMBERS: u32 = 2;
+const REFUSED: u32 = 2;
 
-const SETTINGS: u32 = 3;
+const NUMBERS: u32 = 3;
 
-const SWITCHED: u32 = 4;
+const SETTINGS: u32 = 4;
 
-const TIES: u32 = 5;
+const SWITCHED: u32 = 5;
 
-const COSTS: u32 = 6;
+const TIES: u32 = 6;
 
-const MISMATCHES: u32 = 7;
+const COSTS: u32 = 7;
+
+const MISMATCHES: u32 = 8;
 
 fn count(counts: &mut Board, i: u32, by: u32) {
     let x = add(get(counts, COUNTS, i), by);
@@ -130,6 +132,7 @@ fn score_text(counts: &mut Board, text: Text, bytes: usize)
 fn try_sheet(counts: &mut Board, sheet: u32) {
     let mut text = [0u8; 5952];
     let lines = families::spell_sheet(&mut text, sheet);
+    count(counts, MADE, 1);
     let bytes = text::start_of(lines, 0) as usize;
     if bytes <= 5952 {
         score_text(counts, text, bytes);
@@ -144,11 +147,11 @@ fn try_all(counts: &mut Board) {
     }
 }
 
-// A name in ten columns and a number in six.
-fn show(name: &[u8; 10], x: u32) {
+// A name in ten columns and a count in six.
+fn show(name: &[u8; 10], counts: &Board, i: u32) {
     let mut line = [0u8; 7];
     line[6] = b'\n';
-    columns::write_field(&mut line, x % 1000000);
+    columns::write_field(&mut line, get(counts, COUNTS, i) % 1000000);
     io::write_all(STDOUT, name);
     io::write_all(STDOUT, &line);
 }
@@ -156,13 +159,13 @@ fn show(name: &[u8; 10], x: u32) {
 fn main() {
     let mut counts = [0u32; 1024];
     try_all(&mut counts);
-    show(b"sheets    ", SHEETS);
-    show(b"scored    ", get(&counts, COUNTS, SCORED));
-    show(b"refused   ", get(&counts, COUNTS, REFUSED));
-    show(b"numbers   ", get(&counts, COUNTS, NUMBERS));
-    show(b"settings  ", get(&counts, COUNTS, SETTINGS));
-    show(b"secondary ", get(&counts, COUNTS, SWITCHED));
-    show(b"ties      ", get(&counts, COUNTS, TIES));
-    show(b"costs     ", get(&counts, COUNTS, COSTS));
-    show(b"mismatches", get(&counts, COUNTS, MISMATCHES));
+    show(b"sheets    ", &counts, MADE);
+    show(b"scored    ", &counts, SCORED);
+    show(b"refused   ", &counts, REFUSED);
+    show(b"numbers   ", &counts, NUMBERS);
+    show(b"settings  ", &counts, SETTINGS);
+    show(b"secondary ", &counts, SWITCHED);
+    show(b"ties      ", &counts, TIES);
+    show(b"costs     ", &counts, COSTS);
+    show(b"mismatches", &counts, MISMATCHES);
 }
