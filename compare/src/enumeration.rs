@@ -7,20 +7,25 @@ use crate::reference::sheet::Sheet;
 pub struct Settled {
     pub report: Vec<u8>,
     pub table: Vec<u32>,
+    /// The cheapest setting, its cost, and how many settings cost as little.
+    pub setting: Vec<bool>,
+    pub cost: u32,
+    pub cheapest: usize,
 }
 
 /// What must come out for a sheet that no refusal applies to.
 pub fn settle(sheet: &Sheet) -> Settled {
     let view = View::new(sheet);
-    let cheapest = view
-        .settings()
-        .map(|setting| view.place(&setting))
+    let placed: Vec<Placed> = view.settings().map(|setting| view.place(&setting)).collect();
+    let cheapest = placed
+        .iter()
         .reduce(|best, next| if next.cost < best.cost { next } else { best })
         .expect("there is a setting");
     let table = view.table();
     let whole_cost = table[..sheet.n].iter().min().expect("a node");
-    let report = view.report(&cheapest, *whole_cost);
-    Settled { report, table }
+    let report = view.report(cheapest, *whole_cost);
+    let equals = placed.iter().filter(|other| other.cost == cheapest.cost).count();
+    Settled { report, table, setting: cheapest.setting.clone(), cost: cheapest.cost, cheapest: equals }
 }
 
 /// How many settings the whole network has, as a power of 2.

@@ -2,7 +2,7 @@
 //!
 //! `reference` scores a sheet in ordinary Rust, written from the rules alone. `enumeration` scores small
 //! sheets once more by the definitions, setting by setting. `families` and `damage` make sheets, `proved`
-//! calls the static library, `corpus` writes the input of the test program `score_test`, `differential` compares all of them and `benchmark` times two of them.
+//! calls the static library, `corpus` writes the input of the test program `score_test`, `random_test` what the test program of that name has to write, `differential` compares all of them and `benchmark` times two of them.
 
 pub mod benchmark;
 pub mod corpus;
@@ -12,4 +12,5 @@ pub mod enumeration;
 pub mod families;
 pub mod proved;
 pub mod random;
+pub mod random_test;
 pub mod reference;

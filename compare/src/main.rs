@@ -3,18 +3,20 @@
 use std::process::ExitCode;
 
 use compare::differential::{self, Bounds};
-use compare::{benchmark, corpus};
+use compare::{benchmark, corpus, random_test};
 
 const USAGE: &str =
     "compare [--seed N] [--percent N] [--seconds N] [--no-benchmark] [--write FILE --date DATE]
 compare --corpus FOLDER
+compare --random-test FILE
 
   --seed N        the seed of all sheets (1)
   --percent N     how many sheets, in percent of the usual number (100)
   --seconds N     the most time for the differential run (240)
   --no-benchmark  the differential run alone
   --write FILE    write the benchmarks as a page to FILE, with DATE
-  --corpus FOLDER write the input and the expected output of the test program score_test, and nothing else";
+  --corpus FOLDER write the input and the expected output of the test program score_test, and nothing else
+  --random-test FILE  write the expected output of the test program random_test, and nothing else";
 
 struct Options {
     bounds: Bounds,
@@ -22,6 +24,7 @@ struct Options {
     write: Option<String>,
     date: String,
     corpus: Option<String>,
+    random_test: Option<String>,
 }
 
 fn options() -> Option<Options> {
@@ -31,6 +34,7 @@ fn options() -> Option<Options> {
         write: None,
         date: "undated".to_string(),
         corpus: None,
+        random_test: None,
     };
     let mut words = std::env::args().skip(1);
     while let Some(word) = words.next() {
@@ -42,6 +46,7 @@ fn options() -> Option<Options> {
             "--write" => options.write = Some(words.next()?),
             "--date" => options.date = words.next()?,
             "--corpus" => options.corpus = Some(words.next()?),
+            "--random-test" => options.random_test = Some(words.next()?),
             _ => return None,
         }
     }
@@ -60,6 +65,13 @@ fn main() -> ExitCode {
             .and_then(|()| std::fs::write(format!("{folder}/stdout"), output));
         if let Err(error) = written {
             eprintln!("{folder}: {error}");
+            return ExitCode::FAILURE;
+        }
+        return ExitCode::SUCCESS;
+    }
+    if let Some(file) = options.random_test {
+        if let Err(error) = std::fs::write(&file, random_test::lines()) {
+            eprintln!("{file}: {error}");
             return ExitCode::FAILURE;
         }
         return ExitCode::SUCCESS;
