@@ -1,7 +1,7 @@
 -- An accepted network and gene tree are graded: arcs lead to nodes of higher rank, of which there are fewer, and a gene's children have higher numbers.
 -- So the least costs of their family are computed, and the order by rank serves to fill the table.
 -- Assumes nothing.
-use mathlib.Core.Path.{_≡_, sym, ap, _∙_}
+use mathlib.Core.Path.{_≡_, refl, sym, ap, _∙_}
 use mathlib.Core.Logic.{_≢_}
 use mathlib.Core.List.{List}
 use Prim.Native.Nat.{ℕ, suc, _≤_, _<_}
@@ -18,12 +18,12 @@ use Rattle.topology.specs.Tables.{networkOf, rankFrom}
 use Rattle.histories.specs.Histories.{leaf, tip, pair, Family}
 use Rattle.histories.specs.Grades.{Leads, Graded, Limits, Schedule, Prepared}
 use Rattle.histories.specs.Families.{zeros, childAfter, firstChildren, secondChildren, outBy, geneBy, outFrom, geneFrom, familyFrom, familyOf}
-use Rattle.histories.specs.Orders.{ranksOf, Placed}
+use Rattle.histories.specs.Orders.{keysOf, Placed}
 use Rattle.histories.specs.Accepted.{Accepted}
 use Rattle.histories.proofs.Clauses.{byOut}
 use Rattle.histories.proofs.Filling.{out-in, gene-in}
 use Rattle.histories.proofs.Children.{child-is}
-use Rattle.histories.proofs.Orders.{schedule-of}
+use Rattle.histories.proofs.Orders.{key-rises, keys-at, keys-apart, schedule-of}
 use Rattle.histories.proofs.Sizes.{size, size-low, size-le, size-splits, left-more, right-more}
 
 -- what the tables of children hold
@@ -35,10 +35,6 @@ module _ (n : ℕ) (few : n ≤ 127) (v : ℕ) (lv : 1 ≤ v) (uv : v ≤ n) whe
   pub second-child-at : (parents first : List ℕ) → at (secondChildren n parents first) v ≡ childAfter n parents (at first v) v
   unfolding secondChildren
   second-child-at parents first = filled-in n zeros (λ u. childAfter n parents (at first u) u) v lv uv (omega (arith, zeros-long))
-
-  pub rank-at : (secondary stamp : List ℕ) → at (ranksOf n secondary stamp) v ≡ rankFrom (at secondary v) (at stamp v)
-  unfolding ranksOf
-  rank-at secondary stamp = filled-in n zeros (λ u. rankFrom (at secondary u) (at stamp u)) v lv uv (omega (arith, zeros-long))
 
 module _ (n : ℕ) (principal secondary stamp species : List ℕ) (m : ℕ) (left right kind : List ℕ) (d t l : ℕ) where
   abbrev pub Whole : Family
@@ -170,16 +166,19 @@ module _ (n : ℕ) (principal secondary stamp species : List ℕ) (m : ℕ) (lef
         (λ x lx ux e. height-falls v x lx ux (rank-principal v x lv uv lx ux e))
         (λ x lx ux e. height-falls v x lx ux (rank-secondary v x lv uv lx ux e)) lv uv)
 
-    -- the ranks in their table rise along every arc
-    ranks-rise : (v : ℕ) → 1 ≤ v → v ≤ n → Leads (λ x. (1 ≤ x) × (x ≤ n) × (at (ranksOf n secondary stamp) v < at (ranksOf n secondary stamp) x)) (Whole .out v)
+    -- so do the keys in their table
+    keys-rise : (v x : ℕ) → 1 ≤ v → v ≤ n → 1 ≤ x → x ≤ n → rank v < rank x → at (keysOf n secondary stamp) v < at (keysOf n secondary stamp) x
     unfolding rank
-    ranks-rise v lv uv = leads-out (ok .few-nodes) _ v
-        (λ x lx ux e. (lx, ux, rw (rank-at n (ok .few-nodes) v lv uv secondary stamp, rank-at n (ok .few-nodes) x lx ux secondary stamp) (rank-principal v x lv uv lx ux e)))
-        (λ x lx ux e. (lx, ux, rw (rank-at n (ok .few-nodes) v lv uv secondary stamp, rank-at n (ok .few-nodes) x lx ux secondary stamp) (rank-secondary v x lv uv lx ux e))) lv uv
+    keys-rise v x lv uv lx ux r = rw (keys-at n (ok .few-nodes) secondary stamp v lv uv, keys-at n (ok .few-nodes) secondary stamp x lx ux) (key-rises _ _ v x (omega (arith, ok .few-nodes)) r)
 
-    schedule : (order : List ℕ) → Placed n (ranksOf n secondary stamp) order n → Schedule Whole order
+    keys-lead : (v : ℕ) → 1 ≤ v → v ≤ n → Leads (λ x. (1 ≤ x) × (x ≤ n) × (at (keysOf n secondary stamp) v < at (keysOf n secondary stamp) x)) (Whole .out v)
+    keys-lead v lv uv = leads-out (ok .few-nodes) _ v
+        (λ x lx ux e. (lx, ux, keys-rise v x lv uv lx ux (rank-principal v x lv uv lx ux e)))
+        (λ x lx ux e. (lx, ux, keys-rise v x lv uv lx ux (rank-secondary v x lv uv lx ux e))) lv uv
+
+    schedule : (order : List ℕ) → Placed n (keysOf n secondary stamp) order n → Schedule Whole order
     unfolding familyOf familyFrom
-    schedule order p = schedule-of Whole (ranksOf n secondary stamp) order p ranks-rise
+    schedule order p = schedule-of Whole (keysOf n secondary stamp) order (keys-apart n (ok .few-nodes) secondary stamp (keysOf n secondary stamp) refl) p keys-lead
 
     sizes-le : (g : ℕ) → size m left right (ok .kinship) g ≤ suc (Whole .genes)
     unfolding familyOf familyFrom
@@ -229,5 +228,5 @@ module _ (n : ℕ) (principal secondary stamp species : List ℕ) (m : ℕ) (lef
       splits = λ g a b e. let q = inner-is g a b e in rw (q .3, q .4) (size-splits m left right (ok .kinship) g (q .0) (q .1) (q .2));
     }
 
-    pub prepared : (order : List ℕ) → Placed n (ranksOf n secondary stamp) order n → Prepared Whole order
+    pub prepared : (order : List ℕ) → Placed n (keysOf n secondary stamp) order n → Prepared Whole order
     prepared order p = record { graded = graded; limits = few-limits; schedule = schedule order p }

@@ -11,7 +11,7 @@ use Rattle.histories.specs.Histories.{Family, Cost, least, leastOver, ov
 use Rattle.histories.specs.Grades.{Prepared}
 use Rattle.histories.specs.Words.{word, costOf, row, Rows, Kept}
 use Rattle.histories.specs.Families.{firstChildren, secondChildren, familyFrom, familyOf}
-use Rattle.histories.specs.Orders.{ranksOf, Placed}
+use Rattle.histories.specs.Orders.{keysOf, Placed}
 use Rattle.histories.specs.Accepted.{Accepted}
 use Rattle.histories.specs.Promise.{WholeNetwork}
 use Rattle.histories.proofs.Words.{word-cost}
@@ -46,8 +46,8 @@ module _ (n : ℕ) (principal secondary stamp species : List ℕ) (m : ℕ) (lef
       word-some : (c : ℕ) → word (some c) ≡ c
       word-some c = refl
 
-  -- tables of children, ranks and an order, each by its definition
-  module _ (rank order first second other : List ℕ) (er : rank ≡ ranksOf n secondary stamp) (eo : Placed n rank order n) (ef : first ≡ firstChildren n principal) (es : second ≡ secondChildren n principal first) (ez : other ≡ firstChildren n secondary) where
+  -- tables of children, keys and an order, each by its definition
+  module _ (key order first second other : List ℕ) (er : key ≡ keysOf n secondary stamp) (eo : Placed n key order n) (ef : first ≡ firstChildren n principal) (es : second ≡ secondChildren n principal first) (ez : other ≡ firstChildren n secondary) where
     same-family : familyFrom n first second other species m left right kind d t l ≡ F
     unfolding familyOf
     same-family = rw (ez, es, ef)

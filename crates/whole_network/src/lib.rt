@@ -9,7 +9,7 @@ ghost use Rattle.topology.specs.Tables.{rankFrom};
 ghost use Rattle.histories.specs.Histories.{_⊓_, then, both, resting, leaf, leastOver};
 ghost use Rattle.histories.specs.Words.{costOf, costIn, row, costAt, Cell, Readable, Descendants, tipCost, innerCost, Rows, Partly, RowAt, Kept};
 ghost use Rattle.histories.specs.Grades.{Prepared};
-ghost use Rattle.histories.specs.Orders.{ranksOf, earlier, placeOf, Placed};
+ghost use Rattle.histories.specs.Orders.{keyOf, keysOf, Apart, earlier, placeOf, Placed};
 ghost use Rattle.histories.specs.Families.{outBy, familyOf};
 ghost use Rattle.histories.specs.Accepted.{Accepted};
 ghost use Rattle.histories.specs.Promise.{WholeNetwork};
@@ -506,7 +506,7 @@ fn least_start(n: usize, scratch: &[u32]) -> u32
 // The rank of a node by its secondary parent and its stamp: it rises along every arc.
 fn rank_from(secondary: u32, stamp: u32) -> u32
     requires { ⌜ stamp < 1000000 ⌝ }
-    ensures { λ r. ⌜ r ≡ rankFrom secondary stamp ⌝ }
+    ensures { λ r. ⌜ (r ≡ rankFrom secondary stamp) × (r < 2000000) ⌝ }
 {
     if secondary != 0 {
         return 2 * stamp + 1;
@@ -514,62 +514,64 @@ fn rank_from(secondary: u32, stamp: u32) -> u32
     2 * stamp
 }
 
-fn ranks(n: usize, secondary: &[u32; 128], stamp: &[u32; 128]) -> [u32; 128]
+// The key of node v of this rank: it rises along every arc too, and no two nodes have the same.
+fn key_of(rank: u32, v: usize) -> u32
+    requires { ⌜ (rank < 2000000) × (v ≤ 127) ⌝ }
+    ensures { λ r. ⌜ r ≡ keyOf rank v ⌝ }
+{
+    rank * 128 + ((127 - v) as u32)
+}
+
+fn keys(n: usize, secondary: &[u32; 128], stamp: &[u32; 128]) -> [u32; 128]
     requires { ⌜ (n ≤ 127) × ((v : ℕ) → at (now stamp) v < 1000000) ⌝ }
-    ensures { λ r. ⌜ r ≡ ranksOf n (now (secondary .entry)) (now (stamp .entry)) ⌝ }
+    ensures { λ r. ⌜ r ≡ keysOf n (now (secondary .entry)) (now (stamp .entry)) ⌝ }
 {
     let mut out = [0u32; 128];
     let mut v: usize = 0;
     while v < n {
         let w = v + 1;
-        out[w] = rank_from(secondary[w], stamp[w]);
+        out[w] = key_of(rank_from(secondary[w], stamp[w]), w);
         v = w;
     }
     out
 }
 
-// 1 where node u comes before node v: its rank is higher, or the same and its number is lower.
-fn comes_before(rank: &[u32; 128], u: usize, v: usize) -> u32
+// 1 where node u comes before node v: its key is higher.
+fn comes_before(key: &[u32; 128], u: usize, v: usize) -> u32
     requires { ⌜ (u ≤ 127) × (v ≤ 127) ⌝ }
-    ensures { λ r. ⌜ (r ≡ tally (earlier (now (rank .entry)) v u)) × (r ≤ 1) ⌝ }
+    ensures { λ r. ⌜ (r ≡ tally (earlier (now (key .entry)) v u)) × (r ≤ 1) ⌝ }
 {
-    if rank[v] < rank[u] {
-        return 1;
-    }
-    if rank[u] < rank[v] {
-        return 0;
-    }
-    if u < v {
+    if key[v] < key[u] {
         return 1;
     }
     0
 }
 
 // The place of node v among the nodes in that order.
-fn place(n: usize, rank: &[u32; 128], v: usize) -> usize
+fn place(n: usize, key: &[u32; 128], v: usize) -> usize
     requires { ⌜ (n ≤ 127) × (v ≤ 127) ⌝ }
-    ensures { λ r. ⌜ r ≡ placeOf n (now (rank .entry)) v ⌝ }
+    ensures { λ r. ⌜ r ≡ placeOf n (now (key .entry)) v ⌝ }
 {
     let mut r: u32 = 0;
     let mut u: usize = 0;
     while u < n {
         let w = u + 1;
-        r += comes_before(rank, w, v);
+        r += comes_before(key, w, v);
         u = w;
     }
     wide(r) + 1
 }
 
 // The nodes in an order in which arcs out come first.
-fn order_of(n: usize, rank: &[u32; 128]) -> [u32; 128]
-    requires { ⌜ n ≤ 127 ⌝ }
-    ensures { λ r. ⌜ Placed n (now (rank .entry)) r n ⌝ }
+fn order_of(n: usize, key: &[u32; 128]) -> [u32; 128]
+    requires { ⌜ (n ≤ 127) × Apart n (now key) ⌝ }
+    ensures { λ r. ⌜ Placed n (now (key .entry)) r n ⌝ }
 {
     let mut out = [0u32; 128];
     let mut v: usize = 0;
     while v < n {
         let w = v + 1;
-        let p = place(n, rank, w);
+        let p = place(n, key, w);
         out[p] = w as u32;
         v = w;
     }
@@ -593,8 +595,8 @@ pub fn fill(
     ensures { λ r. ⌜ WholeNetwork (familyOf (h .nodes) (now (principal .entry)) (now (secondary .entry)) (now (species .entry)) (h .genes) (now (left .entry)) (now (right .entry)) (now (kind .entry)) (h .duplication) (h .transfer) (h .loss)) (now (scratch .entry)) (now (scratch .exit)) r ⌝ }
 {
     let n = h.nodes;
-    let rank = ranks(n, secondary, stamp);
-    let order = order_of(n, &rank);
+    let key = keys(n, secondary, stamp);
+    let order = order_of(n, &key);
     let first = tables::first_children(n, principal);
     let second = tables::second_children(n, principal, &first);
     let other = tables::first_children(n, secondary);

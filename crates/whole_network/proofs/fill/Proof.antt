@@ -1,15 +1,16 @@
 -- `whole_network::fill` meets its contract. The tables are those of the definitions, so the rows filled are those of the family, and the promise follows.
 -- Assumes nothing.
+use Rattle.histories.proofs.Orders.{keys-apart}
 use Rattle.histories.proofs.Promise.{ready, promise, row-within}
 use borrow.Author.Needs.{needs}
 use Rattle.whole_network.proofs.fill.Statement.{statement}
 use Rattle.whole_network.proofs.fill.Tie as tie
 
-ranks-requires : tie.Need-ranks-requires
-ranks-requires c κs = search needs
+keys-requires : tie.Need-keys-requires
+keys-requires c κs = search needs
 
 order-of-requires : tie.Need-order-of-requires
-order-of-requires c κs = search needs
+order-of-requires c κs = search (needs, keys-apart)
 
 first-children-requires : tie.Need-first-children-requires
 first-children-requires c κs = search needs
@@ -21,7 +22,7 @@ first-children-requires-2 : tie.Need-first-children-requires-2
 first-children-requires-2 c κs = search needs
 
 fill-rows-requires : tie.Need-fill-rows-requires
-fill-rows-requires c κs = (ready _ _ _ _ _ _ _ _ _ _ _ _ (c .before .before .before .before .before .before .before .before .before .before .before .before .before .pre .0) _ _ _ _ _ (c .before .before .before .before .before .before .before .before .before .before .before .ranks .ensures) (c .before .before .before .before .before .before .before .before .before .order-of .ensures) (c .before .before .before .before .before .before .before .before .first-children .ensures) (c .before .before .before .before .before .before .second-children .ensures) (c .before .before .before .before .before .first-children2 .ensures), c .before .before .before .before .before .before .before .before .before .before .before .before .before .pre .1)
+fill-rows-requires c κs = (ready _ _ _ _ _ _ _ _ _ _ _ _ (c .before .before .before .before .before .before .before .before .before .before .before .before .before .pre .0) _ _ _ _ _ (c .before .before .before .before .before .before .before .before .before .before .before .keys .ensures) (c .before .before .before .before .before .before .before .before .before .order-of .ensures) (c .before .before .before .before .before .before .before .before .first-children .ensures) (c .before .before .before .before .before .before .second-children .ensures) (c .before .before .before .before .before .first-children2 .ensures), c .before .before .before .before .before .before .before .before .before .before .before .before .before .pre .1)
 
 least-start-requires : tie.Need-least-start-requires
 least-start-requires c κs = row-within _ _ _ _ _ (c .before .before .before .before .before .before .before .before .before .before .before .before .before .before .before .before .before .pre .0 .some-gene) (c .before .before .before .before .before .before .before .before .before .before .before .before .before .before .before .before .before .pre .1) (c .before .before .before .fill-rows .ensures .1)
@@ -30,13 +31,13 @@ same-length : tie.Need-same-length
 same-length c = search needs
 
 returns : tie.Need-returns
-returns c = promise _ _ _ _ _ _ _ _ _ _ _ _ (c .before .before .before .before .before .before .before .before .before .before .before .before .before .before .before .before .before .before .pre .0) _ _ _ _ _ (c .before .before .before .before .before .before .before .before .before .before .before .before .before .before .before .before .ranks .ensures) (c .before .before .before .before .before .before .before .before .before .before .before .before .before .before .order-of .ensures) (c .before .before .before .before .before .before .before .before .before .before .before .before .before .first-children .ensures) (c .before .before .before .before .before .before .before .before .before .before .before .second-children .ensures) (c .before .before .before .before .before .before .before .before .before .before .first-children2 .ensures) _ _ (c .before .before .before .before .before .before .before .before .before .before .before .before .before .before .before .before .before .before .pre .1) (c .before .before .before .before .fill-rows .ensures .0) (c .before .before .before .before .fill-rows .ensures .1) _ (c .least-start .ensures)
+returns c = promise _ _ _ _ _ _ _ _ _ _ _ _ (c .before .before .before .before .before .before .before .before .before .before .before .before .before .before .before .before .before .before .pre .0) _ _ _ _ _ (c .before .before .before .before .before .before .before .before .before .before .before .before .before .before .before .before .keys .ensures) (c .before .before .before .before .before .before .before .before .before .before .before .before .before .before .order-of .ensures) (c .before .before .before .before .before .before .before .before .before .before .before .before .before .first-children .ensures) (c .before .before .before .before .before .before .before .before .before .before .before .second-children .ensures) (c .before .before .before .before .before .before .before .before .before .before .first-children2 .ensures) _ _ (c .before .before .before .before .before .before .before .before .before .before .before .before .before .before .before .before .before .before .pre .1) (c .before .before .before .before .fill-rows .ensures .0) (c .before .before .before .before .fill-rows .ensures .1) _ (c .least-start .ensures)
 
 pub fill-spec : {M : Type 1} → statement M
 fill-spec =
     tie.close
     (tie.spec
-    ranks-requires
+    keys-requires
     order-of-requires
     first-children-requires
     second-children-requires
