@@ -27,7 +27,7 @@ use Rattle.reconciliation.proofs.Bounds.{transfers-le, losses-le}
 use Rattle.gene_tree.specs.Genes.{zeros}
 use Rattle.gene_tree.proofs.Genes.{zeros-at, zeros-long}
 use Rattle.mapping.specs.Switched.{switchedOf, taken, Switched, Below, weighs, leavingFrom, leavingTable, ones, forkMark, forkTable, forksTable}
-use Rattle.mapping.specs.Genes.{genesOf, Family, Coming, childHere, eventFrom, eventAt, leavesFrom, wayOf, betweenOf, transfersAt, lossesFrom, lossesAt, placeTable, eventTable}
+use Rattle.mapping.specs.Genes.{genesOf, Family, Coming, childHere, eventFrom, eventAt, leavesFrom, wayOf, betweenOf, transfersAt, lossesFrom, lossesAt, placeTable, eventTable, transferTable, lossTable}
 use Rattle.mapping.proofs.Climbs.{parent-is, below-up}
 use Rattle.mapping.proofs.ArcsOut.{ones-at, hit, miss}
 
@@ -211,15 +211,6 @@ module _ (n : ℕ) (up on height : List ℕ) (m : ℕ) (left right leaf mother :
         event-test M G taken (at mother g),
       ))
 
-  -- no gene has more than 127 of either
-  pub transfers-small : (g : ℕ) → transfersAt n up on height mother P g ≤ 127
-  unfolding switchedOf
-  transfers-small g = omega (arith, transfers-held g, transfers-le M (T .sound) G (F .rooted) (F .seated) taken g, T .few)
-
-  pub losses-small : (g : ℕ) → lossesAt n up on height (forksTable n up) mother P (eventTable n up on height m left right leaf mother) g ≤ 127
-  unfolding switchedOf
-  losses-small g = omega (arith, losses-held g, losses-le M (T .sound) G (F .rooted) (F .seated) taken g, T .few)
-
   -- the same for tables that are equal to these
   module _ (table : List ℕ) (ep : table ≡ P) where
     pub table-low : (g : ℕ) → at table g ≤ 127
@@ -234,9 +225,6 @@ module _ (n : ℕ) (up on height : List ℕ) (m : ℕ) (left right leaf mother :
     pub table-transfers : (g t : ℕ) → t ≡ transfersAt n up on height mother table g → t ≡ transfers M G taken g
     table-transfers g t q = q ∙ rw ep (transfers-held g)
 
-    pub table-transfers-low : (g t : ℕ) → t ≡ transfersAt n up on height mother table g → t ≤ 127
-    table-transfers-low g t q = rw (q, ep) (transfers-small g)
-
     module _ (fork kind : List ℕ) (ef : fork ≡ forksTable n up) (ek : kind ≡ eventTable n up on height m left right leaf mother) where
       pub table-fork : (v : ℕ) → at fork v ≤ 1
       table-fork v = rw ef (fork-low n up on height T v)
@@ -244,8 +232,31 @@ module _ (n : ℕ) (up on height : List ℕ) (m : ℕ) (left right leaf mother :
       pub table-losses : (g l : ℕ) → l ≡ lossesAt n up on height fork mother table kind g → l ≡ losses M G taken g
       table-losses g l q = q ∙ rw (ep, ef, ek) (losses-held g)
 
-      pub table-losses-low : (g l : ℕ) → l ≡ lossesAt n up on height fork mother table kind g → l ≤ 127
-      table-losses-low g l q = rw (q, ep, ef, ek) (losses-small g)
+-- the tables of the genes, read
+module _ (n : ℕ) (up on height : List ℕ) (m : ℕ) (left right leaf mother : List ℕ) (T : Switched n up on height) (F : Family (switchedOf n up on height) m left right leaf mother) (g : ℕ)
+    (l : 1 ≤ g) (u : g ≤ m) where
+  abbrev W : Network
+  W = switchedOf n up on height
 
-      pub table-kind : (g : ℕ) → 1 ≤ g → g ≤ m → at kind g ≡ event M G taken g
-      table-kind g l u = rw ek (event-at-table g l u)
+  abbrev H : GeneTree
+  H = genesOf m left right leaf mother
+
+  pub event-listed : (table : List ℕ) → table ≡ eventTable n up on height m left right leaf mother → at table g ≡ event W H taken g
+  unfolding eventTable
+  event-listed table e = rw e (held-in m (event W H taken) (F .few) g l u)
+
+  pub transfers-listed : (table : List ℕ) → table ≡ transferTable n up on height m left right leaf mother → at table g ≡ transfers W H taken g
+  unfolding transferTable
+  transfers-listed table e = rw e (held-in m (transfers W H taken) (F .few) g l u)
+
+  pub losses-listed : (table : List ℕ) → table ≡ lossTable n up on height m left right leaf mother → at table g ≡ losses W H taken g
+  unfolding lossTable
+  losses-listed table e = rw e (held-in m (losses W H taken) (F .few) g l u)
+
+  pub transfers-few : transfers W H taken g ≤ 127
+  unfolding switchedOf
+  transfers-few = omega (arith, transfers-le W (T .sound) H (F .rooted) (F .seated) taken g, T .few)
+
+  pub losses-few : losses W H taken g ≤ 127
+  unfolding switchedOf
+  losses-few = omega (arith, losses-le W (T .sound) H (F .rooted) (F .seated) taken g, T .few)

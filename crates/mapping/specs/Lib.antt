@@ -3,3 +3,4 @@ pub mod Settings
 pub mod Genes
 pub mod Score
 pub mod Charges
+pub mod Evaluated

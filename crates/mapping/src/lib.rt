@@ -11,6 +11,7 @@ ghost use Rattle.mapping.specs.Switched.{switchedOf, taken, Switched, Be
 ghost use Rattle.mapping.specs.Settings.{bitOf, markFrom, markTable, Numbered, upFrom, upTable};
 ghost use Rattle.mapping.specs.Genes.{genesOf, Family, Kin, Ready, Coming, placeAt, childHere, eventFrom, eventAt, leavesFrom, wayOf, betweenOf, lossesFrom, transfersAt, lossesAt, placeTable, eventTable, transferTable, lossTable};
 ghost use Rattle.mapping.specs.Score.{Cheap, Room, chargedBy, costsOf, scoreOf};
+ghost use Rattle.mapping.specs.Evaluated.{Evaluated};
 ghost use Rattle.mapping.specs.Charges.{passTable, weightTable, Weights, Meeting, Paired, ChargedHere, pairBy, Skipped};
 ghost use Rattle.reconciliation.specs.Mapping.{lcaCost};
 
@@ -526,14 +527,14 @@ fn totals(
     right: &[u32; 128],
     leaf: &[u32; 128],
     mother: &[u32; 128],
-    forks: &[u32; 128],
-    place: &[u32; 128],
     event: &[u32; 128],
+    moved: &[u32; 128],
+    lost: &[u32; 128],
     u: UnitCosts,
 ) -> Score
     requires { ⌜ Switched n (now up) (now on) (now height) ⌝ }
     requires { ⌜ Family (switchedOf n (now up) (now on) (now height)) m (now left) (now right) (now leaf) (now mother) ⌝ }
-    requires { ⌜ (now forks ≡ forksTable n (now up)) × (now place ≡ placeTable n (now up) (now on) (now height) m (now left) (now right) (now leaf) (now mother)) × (now event ≡ eventTable n (now up) (now on) (now height) m (now left) (now right) (now leaf) (now mother)) × Cheap u ⌝ }
+    requires { ⌜ (now event ≡ eventTable n (now up) (now on) (now height) m (now left) (now right) (now leaf) (now mother)) × (now moved ≡ transferTable n (now up) (now on) (now height) m (now left) (now right) (now leaf) (now mother)) × (now lost ≡ lossTable n (now up) (now on) (now height) m (now left) (now right) (now leaf) (now mother)) × Cheap u ⌝ }
     ensures { λ r. ⌜ r ≡ scoreOf (switchedOf n (now (up .entry)) (now (on .entry)) (now (height .entry))) (genesOf m (now (left .entry)) (now (right .entry)) (now (leaf .entry)) (now (mother .entry))) u taken ⌝ }
 {
     let mut s = Score {
@@ -545,15 +546,22 @@ fn totals(
     let mut g: usize = 0;
     while g < m {
         let w = g + 1;
-        let t = transfers_of(n, up, on, height, mother, place, w);
-        let l = losses_of(n, up, on, height, forks, mother, place, event, w);
-        s = charge(u, s, event[w], t, l);
+        s = charge(u, s, event[w], moved[w], lost[w]);
         g = w;
     }
     s
 }
 
-// The score of the gene tree under the switching.
+// What the LCA mapping gives each gene, and the score of the gene tree.
+pub struct Reconciled {
+    pub place: [u32; 128],
+    pub event: [u32; 128],
+    pub transfers: [u32; 128],
+    pub losses: [u32; 128],
+    pub score: Score,
+}
+
+// The genes and the score under the switching.
 pub fn evaluate(
     n: usize,
     up: &[u32; 128],
@@ -565,11 +573,11 @@ pub fn evaluate(
     leaf: &[u32; 128],
     mother: &[u32; 128],
     u: UnitCosts,
-) -> Score
+) -> Reconciled
     requires { ⌜ Switched n (now up) (now on) (now height) ⌝ }
     requires { ⌜ Family (switchedOf n (now up) (now on) (now height)) m (now left) (now right) (now leaf) (now mother) ⌝ }
     requires { ⌜ Cheap u ⌝ }
-    ensures { λ r. ⌜ r ≡ scoreOf (switchedOf n (now (up .entry)) (now (on .entry)) (now (height .entry))) (genesOf m (now (left .entry)) (now (right .entry)) (now (leaf .entry)) (now (mother .entry))) u taken ⌝ }
+    ensures { λ r. ⌜ Evaluated n (now (up .entry)) (now (on .entry)) (now (height .entry)) m (now (left .entry)) (now (right .entry)) (now (leaf .entry)) (now (mother .entry)) u r ⌝ }
 {
     let sent = leaving(n, up, on);
     let fork = forks(n, up);
@@ -587,7 +595,8 @@ pub fn evaluate(
         &place,
         &sent,
     );
-    totals(
+    let moved = transfers(n, up, on, height, m, left, right, leaf, mother, &place);
+    let lost = losses(
         n,
         up,
         on,
@@ -600,8 +609,29 @@ pub fn evaluate(
         &fork,
         &place,
         &event,
+    );
+    let score = totals(
+        n,
+        up,
+        on,
+        height,
+        m,
+        left,
+        right,
+        leaf,
+        mother,
+        &event,
+        &moved,
+        &lost,
         u,
-    )
+    );
+    Reconciled {
+        place: place,
+        event: event,
+        transfers: moved,
+        losses: lost,
+        score: score,
+    }
 }
 
 // The loss that each node charges a gene that passes it: nodes with two on arcs charge one.

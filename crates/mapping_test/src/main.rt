@@ -110,7 +110,9 @@ fn show(
         &event,
     );
     gene_lines(m, &place, &event, &transfers, &losses);
-    score_line(mapping::evaluate(n, up, on, height, m, left, right, leaf, mother, u));
+    let genes = mapping::evaluate(n, up, on, height, m, left, right, leaf, mother, u);
+    let score = genes.score;
+    score_line(score);
 }
 
 // The genes 1 to m, where 12 and 13 do not apply.

@@ -16,7 +16,7 @@ ghost use Rattle.report.specs.Reports.{hasSecondary, reportLength};
 ghost use Rattle.score.specs.Families.{Tables, tablesOf};
 ghost use Rattle.score.specs.Refusals.{leastWords, leastBytes, curators, firstFrom, refusal};
 ghost use Rattle.score.specs.Outcome.{Outcome, Promise};
-ghost use Rattle.score.specs.Stages.{tablesBy, cellTables, Lined, Sized, Passed, Written, Mapped, mappedReport};
+ghost use Rattle.score.specs.Stages.{tablesBy, cellTables, Lined, Sized, Passed, Written, Mapped, Placed, mappedReport};
 
 // The least scratch, in words, and the least result, in bytes.
 const LEAST_WORDS: usize = 16129;
@@ -54,7 +54,7 @@ fn count_some(n: usize, xs: &[u32; 128]) -> u32
     r
 }
 
-// The genes of a switched network, and the report on them.
+// The report on the genes of a switched network.
 fn write_mapped(
     totals: Totals,
     n: usize,
@@ -69,42 +69,16 @@ fn write_mapped(
     secondary: &[u32; 128],
     top: &[u32; 128],
     members: &[u32; 128],
+    place: &[u32; 128],
+    event: &[u32; 128],
+    transfers: &[u32; 128],
+    losses: &[u32; 128],
     result: &mut [u8],
 ) -> usize
     requires { ⌜ Mapped totals n (now up) (now on) (now height) m (now left) (now right) (now leaf) (now mother) (now secondary) (now top) (now members) (length (now result)) ⌝ }
+    requires { ⌜ Placed n (now up) (now on) (now height) m (now left) (now right) (now leaf) (now mother) (now place) (now event) (now transfers) (now losses) ⌝ }
     ensures { λ r. ⌜ (now (result .exit) ≡ written (now (result .entry)) (mappedReport totals n (now (up .entry)) (now (on .entry)) (now (height .entry)) m (now (left .entry)) (now (right .entry)) (now (leaf .entry)) (now (mother .entry)) (now (secondary .entry)) (now (top .entry)) (now (members .entry)))) × (r ≡ reportLength n m (hasSecondary (now (secondary .entry)))) ⌝ }
 {
-    let sent = mapping::leaving(n, up, on);
-    let fork = mapping::forks(n, up);
-    let place = mapping::places(n, up, on, height, m, left, right, leaf, mother);
-    let event = mapping::events(
-        n,
-        up,
-        on,
-        height,
-        m,
-        left,
-        right,
-        leaf,
-        mother,
-        &place,
-        &sent,
-    );
-    let transfers = mapping::transfers(n, up, on, height, m, left, right, leaf, mother, &place);
-    let losses = mapping::losses(
-        n,
-        up,
-        on,
-        height,
-        m,
-        left,
-        right,
-        leaf,
-        mother,
-        &fork,
-        &place,
-        &event,
-    );
     report::write_report(
         result,
         totals,
@@ -115,10 +89,10 @@ fn write_mapped(
         on,
         top,
         members,
-        &place,
-        &event,
-        &transfers,
-        &losses,
+        place,
+        event,
+        transfers,
+        losses,
     )
 }
 
@@ -200,6 +174,10 @@ fn write_family(
     };
     let on = found.on;
     let up = found.up;
+    let place = found.place;
+    let event = found.event;
+    let transfers = found.transfers;
+    let losses = found.losses;
     write_mapped(
         totals,
         n,
@@ -214,6 +192,10 @@ fn write_family(
         secondary,
         &top,
         &members,
+        &place,
+        &event,
+        &transfers,
+        &losses,
         result,
     )
 }

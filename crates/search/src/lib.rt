@@ -17,7 +17,7 @@ ghost use Rattle.optimum.specs.Machine.{stateOf, scored, after, searchAfter};
 ghost use Rattle.search.specs.Prepared.{Prepared};
 ghost use Rattle.search.specs.Steps.{takes, settled, Awaiting, Scored, Reached};
 ghost use Rattle.search.specs.Reported.{markBy, reportedAt, reportedTable, Indexed};
-ghost use Rattle.search.specs.Searched.{Searched};
+ghost use Rattle.search.specs.Searched.{Searched, Listed};
 
 // The state: the best setting so far of each component, at its top; what the best of the component being scored costs; the count of trials.
 pub struct State {
@@ -27,12 +27,16 @@ pub struct State {
 }
 
 // What the search found: the best settings, the trials, and of the switching put together from the bests the marks of the on secondary arcs, the on
-// parents and the score.
+// parents, the place, event, transfers and losses of each gene, and the score.
 pub struct Found {
     pub bests: [u32; 128],
     pub trials: u32,
     pub on: [u32; 128],
     pub up: [u32; 128],
+    pub place: [u32; 128],
+    pub event: [u32; 128],
+    pub transfers: [u32; 128],
+    pub losses: [u32; 128],
     pub score: mapping::Score,
 }
 
@@ -316,6 +320,7 @@ pub fn run(
 ) -> Found
     requires { ⌜ Prepared n (now principal) (now secondary) (now stamp) (now height) (now top) (now members) (now index) m (now left) (now right) (now leaf) (now mother) u ⌝ }
     ensures { λ r. ⌜ Searched (networkOf n (now (principal .entry)) (now (secondary .entry)) (now (stamp .entry))) (genesOf m (now (left .entry)) (now (right .entry)) (now (leaf .entry)) (now (mother .entry))) u r ⌝ }
+    ensures { λ r. ⌜ Listed n (now (height .entry)) m (now (left .entry)) (now (right .entry)) (now (leaf .entry)) (now (mother .entry)) r ⌝ }
 {
     let s = components(
         n,
@@ -336,12 +341,21 @@ pub fn run(
     let bests = s.bests;
     let on = reported_marks(n, &bests, secondary, top, members, index);
     let up = mapping::parents(n, principal, secondary, &on);
-    let score = mapping::evaluate(n, &up, &on, height, m, left, right, leaf, mother, u);
+    let genes = mapping::evaluate(n, &up, &on, height, m, left, right, leaf, mother, u);
+    let place = genes.place;
+    let event = genes.event;
+    let transfers = genes.transfers;
+    let losses = genes.losses;
+    let score = genes.score;
     Found {
         bests: bests,
         trials: s.count,
         on: on,
         up: up,
+        place: place,
+        event: event,
+        transfers: transfers,
+        losses: losses,
         score: score,
     }
 }

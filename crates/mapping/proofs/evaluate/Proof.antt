@@ -4,24 +4,63 @@ use Rattle.mapping.proofs.Climbs.{up-low, on-low}
 use borrow.Author.Needs.{needs}
 use Rattle.mapping.proofs.evaluate.Statement.{statement}
 use Rattle.mapping.proofs.evaluate.Tie as tie
+use Rattle.mapping.proofs.evaluate.Reads as reads
+use Rattle.mapping.proofs.evaluate.Lts as lts
+use Rattle.mapping.proofs.events.Reads as events-reads
+use Rattle.mapping.proofs.forks.Reads as forks-reads
+use Rattle.mapping.proofs.leaving.Reads as leaving-reads
+use Rattle.mapping.proofs.losses.Reads as losses-reads
+use Rattle.mapping.proofs.places.Reads as places-reads
+use Rattle.mapping.proofs.totals.Reads as totals-reads
+use Rattle.mapping.proofs.transfers.Reads as transfers-reads
 
 leaving-requires : tie.Need-leaving-requires
-leaving-requires c κs = (search needs, up-low _ _ _ _ (c .pre .0), on-low _ _ _ _ (c .pre .0))
+leaving-requires c κs =
+    let s = c .pre in
+    (search needs, up-low _ _ _ _ (s .0), on-low _ _ _ _ (s .0))
 
 forks-requires : tie.Need-forks-requires
-forks-requires c κs = (search needs, up-low _ _ _ _ (c .before .pre .0))
+forks-requires c κs =
+    let s = c .before .pre in
+    (search needs, up-low _ _ _ _ (s .0))
 
 places-requires : tie.Need-places-requires
 places-requires c κs = search needs
 
 events-requires : tie.Need-events-requires
-events-requires c κs = let s = c .before .before .before .before .before .pre in (s .0, (s .1 .0, (c .before .before .places .ensures, c .before .before .before .before .leaving .ensures)))
+events-requires c κs =
+    let s = c .before .before .before .before .before .pre in
+    let p = c .before .before .places .ensures in
+    let a = c .before .before .before .before .leaving .ensures in
+    (s .0, (s .1 .0, (p, a)))
+
+transfers-requires : tie.Need-transfers-requires
+transfers-requires c κs = search needs
+
+losses-requires : tie.Need-losses-requires
+losses-requires c κs =
+    let s = c .before .before .before .before .before .before .before .before .before .before .before .pre in
+    let f = c .before .before .before .before .before .before .before .before .before .forks .ensures in
+    let p = c .before .before .before .before .before .before .before .before .places .ensures in
+    let e = c .before .before .before .before .before .events .ensures in
+    (s .0, (s .1 .0, (f, p, e)))
 
 totals-requires : tie.Need-totals-requires
-totals-requires c κs = let s = c .before .before .before .before .before .before .before .before .before .pre in (s .0, (s .1 .0, (c .before .before .before .before .before .before .before .forks .ensures, c .before .before .before .before .before .before .places .ensures, c .before .before .before .events .ensures, s .1 .1)))
+totals-requires c κs =
+    let s = c .before .before .before .before .before .before .before .before .before .before .before .before .before .before .before .pre in
+    let e = c .before .before .before .before .before .before .before .before .before .events .ensures in
+    let t = c .before .before .before .before .before .before .before .transfers .ensures in
+    let l = c .before .before .before .losses .ensures in
+    (s .0, (s .1 .0, (e, t, l, s .1 .1)))
 
 returns : tie.Need-returns
-returns c = search needs
+returns c =
+    let p = c .before .before .before .before .before .before .before .before .before .before .before .before .before .places .ensures in
+    let e = c .before .before .before .before .before .before .before .before .before .before .events .ensures in
+    let t = c .before .before .before .before .before .before .before .before .transfers .ensures in
+    let l = c .before .before .before .before .losses .ensures in
+    let r = c .totals .ensures in
+    record { place = p; event = e; transfers = t; losses = l; score = r }
 
 pub evaluate-spec : {M : Type 1} → statement M
 evaluate-spec =
@@ -31,5 +70,7 @@ evaluate-spec =
     forks-requires
     places-requires
     events-requires
+    transfers-requires
+    losses-requires
     totals-requires
     returns)

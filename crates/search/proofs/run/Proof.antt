@@ -30,11 +30,12 @@ evaluate-requires c κs =
 
 returns : tie.Need-returns
 returns c =
-    let P = c .before .before .before .before .before .before .before .before .before .pre in
-    let last = c .before .before .before .before .before .before .before .before .components .ensures in
-    let on = c .before .before .before .before .before .reported-marks .ensures in
-    let up = c .before .before .before .parents .ensures in
-    found _ _ _ _ _ _ _ _ _ _ _ _ _ _ P _ _ _ _ _ last on up (c .evaluate .ensures)
+    let P = c .before .before .before .before .before .before .before .before .before .before .before .before .before .before .pre in
+    let last = c .before .before .before .before .before .before .before .before .before .before .before .before .before .components .ensures in
+    let on = c .before .before .before .before .before .before .before .before .before .before .reported-marks .ensures in
+    let up = c .before .before .before .before .before .before .before .before .parents .ensures in
+    let e = c .before .before .before .before .before .evaluate .ensures in
+    (found _ _ _ _ _ _ _ _ _ _ _ _ _ _ P _ _ _ _ _ _ _ _ _ last on up (e .score), record { place = e .place; event = e .event; transfers = e .transfers; losses = e .losses })
 
 pub run-spec : {M : Type 1} → statement M
 run-spec = tie.close (tie.spec components-requires reported-marks-requires parents-requires evaluate-requires returns)
