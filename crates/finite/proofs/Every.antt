@@ -1,15 +1,15 @@
 -- A test over 1..n says the same as its statement at each index, or at some index; and the turns of a loop that tests.
 -- Assumes nothing.
-use mathlib.Core.Path.{_≡_, refl, sym, _∙_, ap}
+use mathlib.Core.Path.{_≡_, refl, sym, _∙_}
 use mathlib.Core.Logic.{_≢_}
-use mathlib.Core.Bool.{Bool, true, false, not, cond}
+use mathlib.Core.Bool.{Bool, true, false, not}
 use Prim.Native.Nat.{ℕ, zero, suc, _+_, _≤_, _<_}
 use native.Mathlib.Numerals.{add-one}
 use native.Mathlib.Omega.{arith}
 use Rattle.finite.specs.Tests.{same}
 use Rattle.finite.specs.Range.{every, some, first}
 use Rattle.finite.proofs.Cases.{byBool, byEq, byOrder, clash}
-use Rattle.finite.proofs.Tests.{is-same, same-is, not-same}
+use Rattle.finite.proofs.Tests.{is-same, not-same}
 
 -- from the test to each index, and back
 pub every-at : (n : ℕ) (f : ℕ → Bool) → every n f ≡ true → (v : ℕ) → 1 ≤ v → v ≤ n → f v ≡ true

@@ -19,9 +19,10 @@ use Rattle.finite.proofs.Tables.{within-in, within-zero, within-out}
 pub use Rattle.finite.proofs.Tables.{zeros-long, zeros-at, zeros-filled}
 use Rattle.topology.specs.Networks.{Network}
 use Rattle.reconciliation.specs.GeneTrees.{GeneTree, Rooted, Seated}
+use Rattle.tables.proofs.Nexts.{next-is as next-found, next-none}
 use Rattle.gene_tree.specs.Refusals.{isNext, next, isChild, childCount, geneFits, treeFits, geneVerdict}
 use Rattle.gene_tree.specs.Genes.{leftOf, rightOf, leafOf, geneTreeOf, leftTable, rightTable, leafTable}
-use Rattle.gene_tree.proofs.Refusals.{next-in, next-more, next-entry, next-none, gene-first, gene-some, gene-below, gene-two, tree-gene, bearer-in, seat-leaf, accept-tree, accept-seats}
+use Rattle.gene_tree.proofs.Refusals.{gene-first, gene-some, gene-below, gene-two, tree-gene, bearer-in, seat-leaf, accept-tree, accept-seats}
 
 -- what `within` gives at a number where it is not 0
 within-some : (m : ℕ) (f : ℕ → ℕ) (g : ℕ) → within m f g ≢ 0 → (1 ≤ g) × (g ≤ m)
@@ -80,11 +81,11 @@ module _ (m : ℕ) (parent : List ℕ) (t : treeFits m parent ≡ true) where
     module _ (d : leftOf m parent g ≢ 0) where
       pub left-in : leftOf m parent g ≤ m
       unfolding leftOf
-      left-in = next-in m parent 0 g d
+      left-in = next-found m parent 0 g d .0
 
       pub left-entry : at parent (leftOf m parent g) ≡ g
       unfolding leftOf
-      left-entry = next-entry m parent 0 g d
+      left-entry = next-found m parent 0 g d .2
 
       pub two : childCount m parent g ≡ 2
       two = gene-two m parent g (tree-gene m parent t g lg ug) (child-counted g (leftOf m parent g) (omega arith) left-in left-entry)
@@ -94,15 +95,15 @@ module _ (m : ℕ) (parent : List ℕ) (t : treeFits m parent ≡ true) where
 
       pub right-in : rightOf m parent g ≤ m
       unfolding rightOf
-      right-in = next-in m parent (leftOf m parent g) g right-some
+      right-in = next-found m parent (leftOf m parent g) g right-some .0
 
       pub right-entry : at parent (rightOf m parent g) ≡ g
       unfolding rightOf
-      right-entry = next-entry m parent (leftOf m parent g) g right-some
+      right-entry = next-found m parent (leftOf m parent g) g right-some .2
 
       pub right-after : leftOf m parent g < rightOf m parent g
       unfolding rightOf
-      right-after = next-more m parent (leftOf m parent g) g right-some
+      right-after = next-found m parent (leftOf m parent g) g right-some .1
 
       -- a child has a higher number
       more : (x : ℕ) → x ≢ 0 → x ≤ m → at parent x ≡ g → g < x

@@ -8,30 +8,13 @@ use Prim.Native.Nat.{ℕ, _≤_, _<_}
 use native.Mathlib.Omega.{arith}
 use Rattle.finite.specs.Tests.{same, under}
 use Rattle.finite.specs.Tables.{at}
-use Rattle.finite.proofs.Cases.{byBool, byEq, clash}
-use Rattle.finite.proofs.Tests.{is-same, same-is, not-same, same-not, is-under, under-is, under-not, and-l, and-r, and-yes, or-r, or-no-l, or-no-r, not-true, not-false}
-use Rattle.finite.proofs.Every.{every-at, not-every, first-is, first-none}
-use Rattle.gene_tree.specs.Refusals.{isNext, next, childCount, parentFits, childrenFit, geneFits, treeFits, NoTree, bearer, speciesFits, seatFits, seatsFit, NoSeat, geneVerdict}
+use Rattle.finite.proofs.Cases.{byBool, byEq}
+use Rattle.finite.proofs.Tests.{is-same, same-is, not-same, same-not, is-under, under-is, under-not, and-l, and-r, or-r, or-no-l, or-no-r, not-true, not-false}
+use Rattle.finite.proofs.Every.{every-at, not-every}
+use Rattle.tables.proofs.Nexts.{next-is, next-none}
+use Rattle.gene_tree.specs.Refusals.{childCount, parentFits, childrenFit, geneFits, treeFits, NoTree, bearer, speciesFits, seatFits, seatsFit, NoSeat, geneVerdict}
 use Rattle.gene_tree.specs.Refusals.NoTree.{first-has-parent, no-parent, parent-not-below, children-amiss}
 use Rattle.gene_tree.specs.Refusals.NoSeat.{leaf-without-species, leaf-unknown, inner-with-species}
-
--- of the next: it is in the range, above a, and its entry is x; where there is none, no number above a in the range has that entry
-module _ (n : ℕ) (l : List ℕ) (a x : ℕ) where
-  pub next-in : next n l a x ≢ 0 → next n l a x ≤ n
-  unfolding next
-  next-in d = first-is n (isNext l a x) d .0
-
-  pub next-more : next n l a x ≢ 0 → a < next n l a x
-  unfolding next isNext
-  next-more d = under-is _ _ (and-l (under a (next n l a x)) _ (first-is n (isNext l a x) d .1))
-
-  pub next-entry : next n l a x ≢ 0 → at l (next n l a x) ≡ x
-  unfolding next isNext
-  next-entry d = same-is _ _ (and-r (under a (next n l a x)) _ (first-is n (isNext l a x) d .1))
-
-  pub next-none : next n l a x ≡ 0 → (v : ℕ) → a < v → v ≤ n → at l v ≢ x
-  unfolding next isNext
-  next-none e v g u q = clash (and-yes _ _ (is-under g) (is-same q)) (first-none n (isNext l a x) e v (omega arith) u)
 
 -- 12
 module _ (m : ℕ) (parent : List ℕ) where
@@ -97,7 +80,7 @@ module _ (m : ℕ) (parent : List ℕ) where
 -- a species has a bearer just where it is one and some node of the range bears it
 pub bearer-in : (n : ℕ) (borne : List ℕ) (s : ℕ) → bearer n borne s ≢ 0 → (bearer n borne s ≤ n) × (at borne (bearer n borne s) ≡ s)
 unfolding bearer
-bearer-in n borne s d = byEq s 0 (λ e. absurd (d (rw (is-same e)))) (λ z. rw (not-same z) (next-in n borne 0 s (rw (not-same z) at d), next-entry n borne 0 s (rw (not-same z) at d)))
+bearer-in n borne s d = byEq s 0 (λ e. absurd (d (rw (is-same e)))) (λ z. rw (not-same z) (let r = next-is n borne 0 s (rw (not-same z) at d) in (r .0, r .2)))
 
 bearer-zero : (n : ℕ) (borne : List ℕ) (s : ℕ) → s ≡ 0 → bearer n borne s ≡ 0
 unfolding bearer

@@ -22,7 +22,7 @@ use Rattle.histories.specs.Orders.{keysOf, Placed}
 use Rattle.histories.specs.Accepted.{Accepted}
 use Rattle.histories.proofs.Clauses.{byOut}
 use Rattle.histories.proofs.Filling.{out-in, gene-in}
-use Rattle.histories.proofs.Children.{child-is}
+use Rattle.tables.proofs.Nexts.{next-is as child-is}
 use Rattle.histories.proofs.Orders.{key-rises, keys-at, keys-apart, schedule-of}
 use Rattle.histories.proofs.Sizes.{size, size-low, size-le, size-splits, left-more, right-more}
 

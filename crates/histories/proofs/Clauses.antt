@@ -1,12 +1,12 @@
 -- The clauses on tables of children: what leaves a node by its first, second and secondary child, and each clause in each of these cases.
 -- Assumes nothing.
-use mathlib.Core.Path.{_≡_, refl, sym, ap, _∙_}
+use mathlib.Core.Path.{_≡_, sym, ap, _∙_}
 use mathlib.Core.Option.{none}
 use mathlib.Core.Logic.{_≢_}
 use Prim.Native.Nat.{ℕ, _+_}
 use Rattle.finite.proofs.Tests.{is-same, not-same}
 use Rattle.finite.proofs.Cases.{byEq}
-use Rattle.histories.specs.Histories.{Cost, _⊓_, then, both, resting, parting, moving, ending, stepping, Out, leaf, one, two, mixed, Gene}
+use Rattle.histories.specs.Histories.{Cost, _⊓_, then, both, resting, parting, moving, ending, stepping, Out, leaf, one, two, mixed}
 use mathlib.Core.List.{List}
 use Rattle.histories.specs.Words.{costIn, Cell, Readable, tipCost, innerCost}
 use Rattle.histories.specs.Families.{outBy, geneBy}

@@ -16,7 +16,7 @@ use Rattle.histories.specs.Histories.{Family}
 use Rattle.histories.specs.Families.{childAfter, outBy, PrincipalEnd, SecondaryEnd}
 use Rattle.histories.specs.Accepted.{Shape, reticulation, inner-two, inner-mixed, leaf as leafNode, Accepted}
 use Rattle.histories.proofs.Clauses.{out-two, out-mixed, out-one, byOut}
-use Rattle.histories.proofs.Children.{child-is, child-none}
+use Rattle.tables.proofs.Nexts.{next-is as child-is, next-none as child-none}
 use Rattle.histories.proofs.Accepted.{Whole, tableFirst, out-at, first-child-at, second-child-at}
 use Rattle.histories.proofs.Small.{shape-few, has-first, only-first, first-or-second}
 

@@ -5,7 +5,7 @@ pub mod Words
 pub mod Cells
 pub mod Clauses
 pub mod Filling
-pub mod Children
+pub mod Starts
 pub mod Orders
 pub mod Sizes
 pub mod Accepted

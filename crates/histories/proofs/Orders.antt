@@ -8,10 +8,10 @@ use Prim.Native.Nat.{ℕ, zero, suc, _+_, _*_, _≤_, _<_}
 use native.Mathlib.Omega.{arith}
 use lib.ListN.{length, set, length-set}
 use lib.Seq.{getD-set-same, getD-set-other}
-use Rattle.finite.specs.Tests.{same, under, tally}
+use Rattle.finite.specs.Tests.{same, tally}
 use Rattle.finite.specs.Range.{sum, count, children}
 use Rattle.finite.specs.Tables.{at, zeros}
-use Rattle.finite.proofs.Cases.{byEq, byOrder, byLess, byBool, clash}
+use Rattle.finite.proofs.Cases.{byEq, byOrder, byBool}
 use Rattle.finite.proofs.Tests.{is-same, not-same, same-is, is-under, not-under, under-is, tally-le, tally-yes, tally-no, not-yes}
 use Rattle.finite.proofs.Tables.{zeros-long, filled-in}
 use Rattle.finite.proofs.Sum.{sum-short}

@@ -21,7 +21,7 @@ use Rattle.histories.specs.Families.{childAfter, outBy, familyOf, family
 use Rattle.histories.specs.Accepted.{Shape, reticulation, inner-two, inner-mixed, leaf as leafNode, Seat, Accepted}
 use Rattle.histories.proofs.Least.{overall-at-most}
 use Rattle.histories.proofs.Clauses.{out-leaf, out-two, out-mixed, out-one}
-use Rattle.histories.proofs.Children.{child-is, child-none, child-low}
+use Rattle.tables.proofs.Nexts.{next-is as child-is, next-none as child-none, next-low as child-low}
 use Rattle.histories.proofs.Sizes.{size, size-low, size-le, size-splits}
 use Rattle.histories.proofs.Accepted.{Whole, tableFirst, tableOther, out-at, first-child-at, second-child-at, gene-tip, gene-pair, rank, rank-principal, principal-in, node-in, root-low, root-high, root-none, principal-le, graded}
 

@@ -12,9 +12,9 @@ use lib.Seq.{getD-set-same, getD-set-other}
 use Rattle.finite.specs.Tests.{same, under}
 use Rattle.finite.specs.Range.{first}
 use Rattle.finite.specs.Tables.{at, zeros}
-use Rattle.finite.proofs.Cases.{byEq, byLess, byOrder}
-use Rattle.finite.proofs.Tests.{and-yes, and-no-l, and-no-r, is-same, not-same, is-under, not-under}
-use Rattle.finite.proofs.Every.{first-only, first-nothing, first-same}
+use Rattle.finite.proofs.Cases.{byEq, byLess, byOrder, clash}
+use Rattle.finite.proofs.Tests.{and-l, and-r, and-yes, and-no-l, and-no-r, is-same, same-is, not-same, is-under, under-is, not-under}
+use Rattle.finite.proofs.Every.{first-is, first-none, first-low, first-only, first-nothing, first-same}
 use Rattle.finite.proofs.Tables.{zeros-at, zeros-long, zeros-ext, filled-same}
 use Rattle.tables.specs.Children.{isNext, next, firstChildren, secondChildren, inside, insideAfter}
 
@@ -115,3 +115,19 @@ pub ruleset note-loop = (noted-start, noted-turn, noted-done)
 pub first-is-second : (n : ℕ) (parents : List ℕ) → secondChildren n parents zeros ≡ firstChildren n parents
 unfolding secondChildren firstChildren
 first-is-second n parents = filled-same n zeros _ _ (λ v l u. ap (λ (a : ℕ). next n parents a v) (zeros-at v))
+
+-- what the next one is: in the range, above a, with the entry x; none between has that entry, and none above a has it where there is no next one
+module _ (n : ℕ) (l : List ℕ) (a x : ℕ) where
+  pub next-is : next n l a x ≢ 0 → (next n l a x ≤ n) × (a < next n l a x) × (at l (next n l a x) ≡ x)
+  unfolding next isNext
+  next-is d =
+      let r = first-is n (isNext l a x) d in
+      (r .0, under-is a _ (and-l _ _ (r .1)), same-is _ x (and-r (under a (next n l a x)) _ (r .1)))
+
+  pub next-none : next n l a x ≡ 0 → (v : ℕ) → a < v → v ≤ n → at l v ≢ x
+  unfolding next isNext
+  next-none e v h u q = clash (and-yes (under a v) (same (at l v) x) (is-under h) (is-same q)) (first-none n (isNext l a x) e v (omega arith) u)
+
+  pub next-low : (v : ℕ) → a < v → v < next n l a x → at l v ≢ x
+  unfolding next isNext
+  next-low v h u q = clash (and-yes (under a v) (same (at l v) x) (is-under h) (is-same q)) (first-low n (isNext l a x) v (omega arith) u)

@@ -1,7 +1,6 @@
 -- `gene_tree::is_next` meets its contract. Every number of 1 to n is above 0, so the entry settles the test.
 -- Assumes nothing.
 use native.Mathlib.Omega.{arith}
-use mathlib.Core.Path.{refl}
 use Rattle.finite.specs.Tests.{same}
 use Rattle.finite.proofs.Tests.{is-under}
 use Rattle.gene_tree.specs.Refusals.{isNext}

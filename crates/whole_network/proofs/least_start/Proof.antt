@@ -1,12 +1,11 @@
 -- `whole_network::least_start` meets its contract. The loop's invariant: the sum so far stands for the least of the nodes passed.
 -- Assumes nothing.
 use borrow.Author.Needs.{needs}
-use native.Mathlib.Omega.{arith}
 use mathlib.Core.Path.{_≡_}
 use Prim.Native.Nat.{_-_, _≤_}
 use Rattle.histories.specs.Histories.{leastOver}
 use Rattle.histories.specs.Words.{costIn, row}
-use Rattle.histories.proofs.Children.{over-loop}
+use Rattle.histories.proofs.Starts.{over-loop}
 use Rattle.whole_network.proofs.least_start.Statement.{statement}
 use Rattle.whole_network.proofs.least_start.Tie as tie
 
