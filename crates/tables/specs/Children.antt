@@ -28,7 +28,7 @@ secondChildren n parents first = filled n zeros (λ v. next n parents (at first 
 unfoldable pub childCounts : (n : ℕ) (parents : List ℕ) → List ℕ
 childCounts n parents = filled n zeros (children n (at parents))
 
--- the table while the children are counted, those of 1..w being: what entry 0 holds is of no account
+-- the table once the children 1..w are counted; entry 0 may hold any number up to w
 pub record Counted (n : ℕ) (parents : List ℕ) (w : ℕ) (out : List ℕ) : Type 0 where
   pub long : length out ≡ 128
   pub within : (v : ℕ) → 1 ≤ v → v ≤ n → at out v ≡ children w (at parents) v
