@@ -1,4 +1,4 @@
--- The tops of the reticulations, counted: each entry is the number of members of the component with that top.
+-- The tops of the reticulations are counted. So each entry is the number of members of the component with that top.
 -- Assumes nothing.
 use Rattle.network.proofs.TopTables.{members-counted}
 use borrow.Author.Needs.{needs}

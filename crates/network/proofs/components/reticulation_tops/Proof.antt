@@ -1,4 +1,4 @@
--- The tops of the reticulations, and what a table without entries holds for the other nodes.
+-- A reticulation has its top as its entry. Another node has what a table without entries holds, 0.
 -- Assumes nothing.
 use Rattle.finite.specs.Tables.{zeros}
 use Rattle.network.proofs.TopTables.{tops-told}

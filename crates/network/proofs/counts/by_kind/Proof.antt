@@ -1,4 +1,4 @@
--- The table is filled from the front, each entry by the node's secondary parent.
+-- The table is filled from the front, each entry by the node's secondary parent. What stands at 0 and above n stays 0.
 -- Assumes nothing.
 use Prim.Native.Nat.{_-_, _≤_}
 use mathlib.Core.Path.{_≡_}

@@ -1,4 +1,4 @@
--- The test on the secondary parent is the definition's.
+-- The test on the secondary parent is the definition's. Each return is one of its cases.
 -- Assumes nothing.
 use Rattle.finite.proofs.Tests.{pick-yes, pick-no, is-same, not-same}
 use Rattle.network.specs.Tables.{ofKind}

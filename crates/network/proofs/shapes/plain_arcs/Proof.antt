@@ -1,4 +1,4 @@
--- The principal parents of the nodes that are no reticulations, counted.
+-- The principal parents of the nodes that are no reticulations are counted. A reticulation has 0 there, which is no node's entry.
 -- Assumes nothing.
 use Rattle.finite.specs.Tables.{zeros}
 use Rattle.network.proofs.ShortForms.{plain-counted}
