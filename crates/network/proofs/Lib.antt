@@ -1,7 +1,6 @@
 pub mod Loops
 pub mod Counting
 pub mod Tables
-pub mod Histogram
 pub mod Readings
 pub mod ShortForms
 pub mod Acceptance

@@ -9,16 +9,18 @@ use Prim.Native.Nat.{ℕ, _≤_}
 use native.Mathlib.Omega.{arith}
 use Rattle.finite.specs.Tests.{same}
 use Rattle.finite.specs.Range.{some, every, children}
-use Rattle.finite.specs.Tables.{at}
+use Rattle.finite.specs.Tables.{at, zeros}
 use Rattle.finite.proofs.Cases.{byBool, byEq, clash}
 use Rattle.finite.proofs.Tests.{is-same, same-is, not-same, same-not, test-iff, or-yes-l, or-yes-r, or-r, not-true, not-yes, not-no, told-not-yes, told-not-no}
 use Rattle.finite.proofs.Every.{some-at, is-some, every-at, is-every}
 use Rattle.finite.proofs.Count.{count-two, count-some, count-find, count-zero, zero-count}
+use Rattle.finite.proofs.Tables.{zeros-at}
+use Rattle.tables.specs.Children.{childCounts}
 use Rattle.network.specs.Refusals.{Numbered, shapeless, shapelessAt, leafWith, leafAt, refusal9, Refusal9, leaf-without, other-with, two-alike, childAt, reticulationIfChild, onlyReticulationsAt, Child, by-principal, by-secondary}
-use Rattle.network.specs.ShortForms.{wrongSpecies, wrongSpeciesAt, plainParent, plainParentAt, onlyReticulations}
-use Rattle.network.specs.Tables.{table, ArcsOut}
+use Rattle.network.specs.ShortForms.{wrongSpecies, wrongSpeciesAt, plainParentAt, onlyReticulations}
+use Rattle.network.specs.Tables.{table, ofKind, byKind, ArcsOut}
 use Rattle.network.proofs.Counting.{count-another}
-use Rattle.network.proofs.Tables.{table-at, arcs-at, arcs-small}
+use Rattle.network.proofs.Tables.{table-at, table-same, table-counted, arcs-at, arcs-small}
 use Rattle.network.proofs.Readings.{leaf-at-is, is-leaf-at, leaf-at-not, not-leaf-at, reading-9, child-is, is-child}
 
 and-swap : (a b : Bool) → (a && b) ≡ (b && a)
@@ -76,12 +78,12 @@ module _ (n : ℕ) (principal secondary : List ℕ) (v : ℕ) (l : 1 ≤ v) wher
 
   -- a node that is no reticulation has v as its plain parent if it is a child of v
   plain-is : (w : ℕ) → at secondary w ≡ 0 → Child principal secondary v w → plainParentAt principal secondary w ≡ v
-  unfolding plainParentAt plainParent
+  unfolding plainParentAt ofKind
   plain-is w z (by-principal e) = rw (is-same z) e
   plain-is w z (by-secondary e) = absurd (omega arith)
 
   is-plain : (w : ℕ) → plainParentAt principal secondary w ≡ v → (at secondary w ≡ 0) × Child principal secondary v w
-  unfolding plainParentAt plainParent
+  unfolding plainParentAt ofKind
   is-plain w e = byEq (at secondary w) 0 (λ z. (z, by-principal (rw (is-same z) at e)))
       (λ d. absurd (let q : 0 ≡ v = rw (not-same d) at e in omega arith))
 
@@ -113,6 +115,12 @@ module _ (n : ℕ) (principal secondary : List ℕ) (v : ℕ) (l : 1 ≤ v) wher
   pub only-iff : onlyReticulations a b k ≡ onlyReticulationsAt n principal secondary v
   unfolding onlyReticulations onlyReticulationsAt
   only-iff = rw (has-child, none-plain) (and-swap (same k 0) (not (same a 0) || not (same b 0)))
+
+-- the arcs out of each node that lead to no reticulation, counted
+pub plain-counted : (n : ℕ) (principal secondary parents out : List ℕ) → n ≤ 127 → parents ≡ table n (byKind secondary principal zeros) → out ≡ childCounts n parents
+    → out ≡ table n (children n (plainParentAt principal secondary))
+unfolding byKind plainParentAt
+plain-counted n principal secondary parents out b e q = table-counted n _ parents out b (e ∙ table-same n _ _ (λ w _ _. rw (zeros-at w))) q
 
 -- what the code asks of node v, with the arcs out of it in their tables
 module _ (n : ℕ) (principal secondary principals secondaries : List ℕ) (v : ℕ) (k : (n ≤ 127) × (1 ≤ v) × (v ≤ n)) (arcs : ArcsOut n principal secondary principals secondaries) where

@@ -3,38 +3,30 @@
 use mathlib.Core.Path.{_≡_, refl, sym, _∙_, ap}
 use mathlib.Core.Bool.{Bool, true, false, _&&_}
 use mathlib.Core.List.{List, [], _∷_}
-use lib.ListN.{length, getD, set, replicate, length-set, length-replicate, getD-replicate, List·getD-eq-default}
+use lib.ListN.{length, getD, replicate, length-set, length-replicate, getD-replicate, List·getD-eq-default}
 use lib.Seq.{getD-set-same, getD-set-other}
 use Prim.Native.Nat.{ℕ, zero, suc, _+_, _≤_, _<_}
 use native.Mathlib.Omega.{arith}
 use Rattle.finite.specs.Tests.{same, under, tally}
 use Rattle.finite.specs.Range.{some, count, children}
-use Rattle.finite.specs.Tables.{at, filled}
+use Rattle.finite.specs.Tables.{at, zeros, filled}
 use Rattle.finite.proofs.Cases.{byEq, byLess}
 use Rattle.finite.proofs.Tests.{is-under, not-under, is-same, not-same, and-no-r}
 use Rattle.finite.proofs.Every.{some-same}
 use Rattle.finite.proofs.Count.{count-same, count-done}
 use Rattle.finite.proofs.Sum.{sum-zero-range, sum-suc}
-use Rattle.finite.proofs.Tables.{length-filled, filled-in, filled-out, filled-zero, filled-ext, within-out}
-use Rattle.topology.specs.Networks.{Network, Sound, isReticulation}
+use Rattle.finite.proofs.Tables.{length-filled, filled-in, filled-out, filled-zero, zeros-at, zeros-ext, within-out}
+use Rattle.tables.specs.Children.{inside, Counted, childCounts}
+use Rattle.tables.proofs.Nexts.{inside-in, inside-out}
+use Rattle.topology.specs.Networks.{Network, isReticulation}
 use Rattle.topology.specs.Switchings.{height}
 use Rattle.topology.specs.Components.{component, memberOf, members, indexOf}
 use Rattle.topology.specs.Tables.{networkOf, rankFrom}
 use Rattle.network.specs.Refusals.{crowdedAt, refusal11}
-use Rattle.network.specs.Tables.{zeros, table, slotOf, Counted, memberWith, memberAt, membersFrom, reticulationTop, reticulationTopAt, earlierAt, indexFrom, crowdedFrom, heightIn, lastNode, flat}
-use Rattle.network.proofs.Tables.{zeros-long, zeros-at, table-at, table-long, table-zero}
-use Rattle.network.proofs.Histogram.{slot-node}
+use Rattle.network.specs.Tables.{table, ofKind, byKind, memberWith, memberAt, membersFrom, reticulationTopAt, earlierAt, indexFrom, crowdedFrom, heightIn, lastNode, flat}
+use Rattle.network.proofs.Tables.{table-at, table-long, table-zero, table-same, table-counted, children-table}
 use Rattle.network.proofs.Acceptance.{secondary-at}
 use Rattle.network.proofs.Ways.{height-is}
-
-filled-same : (n : ℕ) (l : List ℕ) (f g : ℕ → ℕ) → ((v : ℕ) → 1 ≤ v → v ≤ n → f v ≡ g v) → filled n l f ≡ filled n l g
-unfolding filled
-filled-same zero l f g h = refl
-filled-same (suc k) l f g h = rw (filled-same k l f g (λ v a b. h v a (omega arith)), h (suc k) (omega arith) (omega arith))
-
-pub table-same : (n : ℕ) (f g : ℕ → ℕ) → ((v : ℕ) → 1 ≤ v → v ≤ n → f v ≡ g v) → table n f ≡ table n g
-unfolding table
-table-same n f g h = filled-same n zeros f g h
 
 -- the end of the loop that counts the members before r
 pub index-done : (n v r c k : ℕ) (secondary tops : List ℕ) → c ≡ at tops r → v ≤ n → n ≤ v → k ≡ count v (earlierAt secondary tops c r) → k ≡ indexFrom n secondary tops r
@@ -43,16 +35,21 @@ index-done n v r c k secondary tops e a b h = rw (← e) (count-done (earlierAt 
 
 -- a reticulation of component c is one whose top is c
 member-key : (secondary tops : List ℕ) (c : ℕ) → 1 ≤ c → (r : ℕ) → same (reticulationTopAt secondary tops r) c ≡ memberAt secondary tops c r
-unfolding memberAt memberWith reticulationTopAt reticulationTop
+unfolding memberAt memberWith reticulationTopAt ofKind
 member-key secondary tops c l r = byEq (at secondary r) 0 (λ e. rw (is-same e) (not-same {m = 0} {n = c} (λ q. omega arith))) (λ d. rw (not-same d))
 
 keys-are : (secondary tops : List ℕ) (v c : ℕ) → 1 ≤ c → children v (reticulationTopAt secondary tops) c ≡ count v (memberAt secondary tops c)
 unfolding children
 keys-are secondary tops v c l = count-same v _ _ (λ r _ _. member-key secondary tops c l r)
 
-pub members-counted : (n : ℕ) (secondary tops out : List ℕ) → out ≡ table n (children n (reticulationTopAt secondary tops)) → out ≡ table n (membersFrom n secondary tops)
+-- the tops of the reticulations, and how often each is one
+pub tops-told : (n : ℕ) (secondary tops out : List ℕ) → out ≡ table n (byKind secondary zeros tops) → out ≡ table n (reticulationTopAt secondary tops)
+unfolding byKind reticulationTopAt
+tops-told n secondary tops out e = e ∙ table-same n _ _ (λ r _ _. rw (zeros-at r))
+
+pub members-counted : (n : ℕ) (secondary tops own out : List ℕ) → n ≤ 127 → own ≡ table n (reticulationTopAt secondary tops) → out ≡ childCounts n own → out ≡ table n (membersFrom n secondary tops)
 unfolding membersFrom
-members-counted n secondary tops out e = e ∙ table-same n _ _ (λ c l _. keys-are secondary tops n c l)
+members-counted n secondary tops own out b e q = table-counted n _ own out b e q ∙ table-same n _ _ (λ c l _. keys-are secondary tops n c l)
 
 and-true : (b : Bool) → (b && true) ≡ b
 and-true true = refl
@@ -73,13 +70,17 @@ count-below (suc k) v f l = byEq v (suc k) (λ e. rw (← e) (count-whole v f))
       count-below k v f (omega arith),
     ))
 
+-- a number of 1..n stands where it is counted
+node-inside : (n x c : ℕ) → c ≡ inside n x → (c ≡ 0 → ⊥) → (1 ≤ c) × (c ≤ n) × (c ≡ x)
+node-inside n x c e d = byLess n x (λ l. absurd (d (e ∙ sym (inside-out n x l)))) (λ l. let q : c ≡ x = e ∙ sym (inside-in n x l) in (omega arith, omega arith, q))
+
 -- the count at the top of v + 1, a node, is the index of v + 1
-pub index-seen : (n v x c : ℕ) (secondary tops seen : List ℕ) → v < n → Counted n (reticulationTopAt secondary tops) v seen → c ≡ slotOf n x → x ≡ at tops (v + 1) → (c ≡ 0 → ⊥)
+pub index-seen : (n v x c : ℕ) (secondary tops seen : List ℕ) → n ≤ 127 → v < n → Counted n (table n (reticulationTopAt secondary tops)) v seen → c ≡ inside n x → x ≡ at tops (v + 1) → (c ≡ 0 → ⊥)
     → at seen c ≡ indexFrom n secondary tops (v + 1)
 unfolding indexFrom earlierAt
-index-seen n v x c secondary tops seen l s e q d = let k = slot-node n x c e d in
+index-seen n v x c secondary tops seen b l s e q d = let k = node-inside n x c e d in
     let h : c ≡ at tops (v + 1) = k .2 ∙ q in
-    s .inside c (omega (arith, k .0, k .2)) (omega (arith, k .1, k .2)) ∙ keys-are secondary tops v c (omega (arith, k .0, k .2))
+    s .within c (k .0) (k .1) ∙ children-table n v _ c b (omega arith) ∙ keys-are secondary tops v c (k .0)
     ∙ rw (← h) (sym (count-below n v (memberAt secondary tops c) (omega arith)))
 
 -- within the list the default does not matter
@@ -166,12 +167,12 @@ module _ (n : ℕ) (secondary stamp : List ℕ) where
 
   pub heights-filled : (last : ℕ) (out : List ℕ) → last ≡ lastNode n → out ≡ filled last flat (heightIn n secondary stamp) → out ≡ table 127 (heightIn n secondary stamp)
   unfolding table
-  heights-filled last out e q = q ∙ filled-ext 127 zeros (filled last flat f) f (omega (arith, zeros-long)) (length-filled last flat f ∙ flat-long ∙ sym zeros-long)
+  heights-filled last out e q = q ∙ zeros-ext 127 (filled last flat f) f (omega arith) (length-filled last flat f ∙ flat-long)
       (λ v l u. byLess last v
       (λ g. filled-out last flat f v g ∙ flat-in v l u ∙ sym (height-past v (byLess 127 n (λ h. absurd (omega (arith, e, last-many n h))) (λ h. omega (arith, e, last-few n h)))))
       (λ g. filled-in last flat f v l g (omega (arith, flat-long, e, last-le n))))
-      (λ v l. filled-out last flat f v (omega (arith, e, last-le n)) ∙ flat-out v l ∙ sym (zeros-at v))
-      (filled-zero last flat f ∙ flat-zero ∙ sym (zeros-at 0))
+      (λ v l. filled-out last flat f v (omega (arith, e, last-le n)) ∙ flat-out v l)
+      (filled-zero last flat f ∙ flat-zero)
     where
       f : ℕ → ℕ
       f = heightIn n secondary stamp

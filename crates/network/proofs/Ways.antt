@@ -12,11 +12,11 @@ use native.Mathlib.Numerals.{add-one}
 use native.Mathlib.Omega.{arith}
 use Rattle.finite.specs.Tests.{same}
 use Rattle.finite.specs.Range.{some}
-use Rattle.finite.specs.Tables.{at}
+use Rattle.finite.specs.Tables.{at, zeros}
 use Rattle.finite.proofs.Cases.{byBool, byEq, clash}
 use Rattle.finite.proofs.Tests.{is-same, not-same, is-beq, test-iff, or-yes-r, not-true, not-false, not-yes, tally-le}
 use Rattle.finite.proofs.Every.{some-at, is-every}
-use Rattle.finite.proofs.Tables.{within-in}
+use Rattle.finite.proofs.Tables.{within-in, zeros-long, zeros-at}
 use Rattle.topology.specs.Networks.{Network, Node, Sound, Reticulation, isReticulation}
 use Rattle.topology.specs.Switchings.{allPrincipal, height, above}
 use Rattle.topology.specs.Components.{isTop, component}
@@ -25,10 +25,9 @@ use Rattle.topology.proofs.Climbing.{low-some}
 use Rattle.topology.proofs.Above.{node-secondary, node-principal, fall-principal, falls-principal, above-self, above-low, tree-not, reticulation-is, is-reticulation}
 use Rattle.topology.proofs.Components.{component-top, component-up, top-root, top-reticulation}
 use Rattle.network.specs.Refusals.{Numbered}
-use Rattle.network.specs.Tables.{heightWith, heightAt, zeros, between, bridged, marked, MarkedWay, MarkedWays, NonTops}
+use Rattle.network.specs.Tables.{heightWith, heightAt, between, bridged, marked, MarkedWay, MarkedWays, NonTops}
 use Rattle.network.proofs.Counting.{some-none}
 use Rattle.network.proofs.Acceptance.{numbered, node-is, principal-at, secondary-at}
-use Rattle.network.proofs.Tables.{zeros-long, zeros-at}
 
 -- marking a node
 pub marked-set : (m : List ℕ) (a : ℕ) → a < length m → (w : ℕ) → marked (set m a 1) w ≡ (same w a || marked m w)

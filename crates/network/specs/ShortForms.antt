@@ -7,6 +7,7 @@ use Rattle.finite.specs.Tests.{same}
 use Rattle.finite.specs.Range.{children}
 use Rattle.finite.specs.Tables.{at}
 use Rattle.network.specs.Refusals.{leafAt}
+use Rattle.network.specs.Tables.{ofKind}
 
 -- a node with species k, which c nodes have
 unfoldable pub wrongSpecies : (leaf : Bool) (k c : ℕ) → Bool
@@ -16,11 +17,8 @@ unfoldable pub wrongSpeciesAt : ℕ → (principal secondary species : List ℕ)
 wrongSpeciesAt n principal secondary species v = wrongSpecies (leafAt n principal secondary v) (at species v) (children n (at species) (at species v))
 
 -- the principal parent of a node that is no reticulation; 0 of a reticulation
-unfoldable pub plainParent : (principal secondary : ℕ) → ℕ
-plainParent principal secondary = cond (same secondary 0) principal 0
-
 unfoldable pub plainParentAt : (principal secondary : List ℕ) → ℕ → ℕ
-plainParentAt principal secondary w = plainParent (at principal w) (at secondary w)
+plainParentAt principal secondary w = ofKind (at secondary w) (at principal w) 0
 
 -- a node with a principal and b secondary arcs out, of which k lead to no reticulation
 unfoldable pub onlyReticulations : (a b k : ℕ) → Bool

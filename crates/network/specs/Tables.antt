@@ -6,34 +6,28 @@ use mathlib.Core.List.{List}
 use Prim.Native.Nat.{ℕ, suc, _≤_, _<_}
 use lib.ListN.{length, replicate, set}
 use Rattle.finite.specs.Tests.{same, under}
-use Rattle.finite.specs.Range.{some, count, children}
-use Rattle.finite.specs.Tables.{at, filled}
+use Rattle.finite.specs.Range.{some, count}
+use Rattle.finite.specs.Tables.{at, zeros, filled}
+use Rattle.tables.specs.Children.{childCounts}
 use Rattle.topology.specs.Networks.{Network, Node, isReticulation}
 use Rattle.topology.specs.Switchings.{allPrincipal, above}
 use Rattle.topology.specs.Components.{isTop}
 use Rattle.topology.specs.Tables.{rankFrom}
 
-unfoldable pub zeros : List ℕ
-zeros = replicate 128 0
-
 unfoldable pub table : ℕ → (ℕ → ℕ) → List ℕ
 table n f = filled n zeros f
 
--- where a pass counts a key: at the key where it is a node, else at 0
-unfoldable pub slotOf : (n key : ℕ) → ℕ
-slotOf n key = cond (under n key) 0 key
+-- an entry of a node by its secondary parent: `plain` where it has none, `other` of a reticulation (01, refusal 8)
+unfoldable pub ofKind : (secondary plain other : ℕ) → ℕ
+ofKind secondary plain other = cond (same secondary 0) plain other
 
--- a pass has counted the keys of 1..v: at each node how many of them it is
-pub record Counted (n : ℕ) (key : ℕ → ℕ) (v : ℕ) (out : List ℕ) : Type 0 where
-  pub long : length out ≡ 128
-  pub small : (c : ℕ) → at out c ≤ v
-  pub inside : (c : ℕ) → 1 ≤ c → c ≤ n → at out c ≡ children v key c
-  pub outside : (c : ℕ) → n < c → at out c ≡ 0
+unfoldable pub byKind : (secondary plain other : List ℕ) → ℕ → ℕ
+byKind secondary plain other v = ofKind (at secondary v) (at plain v) (at other v)
 
 -- the tables of the principal and of the secondary arcs out of each node
 pub record ArcsOut (n : ℕ) (principal secondary principals secondaries : List ℕ) : Type 0 where
-  pub first : principals ≡ table n (children n (at principal))
-  pub second : secondaries ≡ table n (children n (at secondary))
+  pub first : principals ≡ childCounts n principal
+  pub second : secondaries ≡ childCounts n secondary
 
 -- the height of node v (`height` of topology) from its secondary parent and its stamp; 0 for no node
 unfoldable pub heightWith : (v secondary stamp : ℕ) → ℕ
@@ -80,11 +74,8 @@ unfoldable pub membersFrom : ℕ → (secondary tops : List ℕ) → ℕ → ℕ
 membersFrom n secondary tops c = count n (memberAt secondary tops c)
 
 -- the top of a reticulation's component; 0 of another node
-unfoldable pub reticulationTop : (secondary top : ℕ) → ℕ
-reticulationTop secondary top = cond (same secondary 0) 0 top
-
 unfoldable pub reticulationTopAt : (secondary tops : List ℕ) → ℕ → ℕ
-reticulationTopAt secondary tops r = reticulationTop (at secondary r) (at tops r)
+reticulationTopAt secondary tops r = ofKind (at secondary r) 0 (at tops r)
 
 -- a reticulation q of component c before r, and how many there are in r's component (`indexOf` of topology)
 unfoldable pub earlierAt : (secondary tops : List ℕ) → (c r q : ℕ) → Bool

@@ -1,15 +1,16 @@
 // The reticulations of each component, by the tops, and refusal 11.
 use super::climbs::tops;
+use super::counts::by_kind;
 use super::counts::one_if_true;
-use super::counts::slot;
 use super::counts::wide;
 ghost use mathlib.Core.Path.{_≡_};
 ghost use Prim.Native.Nat.{_+_, _≤_, _<_};
 ghost use Rattle.finite.specs.Range.{some};
+ghost use Rattle.tables.specs.Children.{Counted};
 ghost use Rattle.network.specs.Refusals.{refusal11};
 ghost use Rattle.topology.specs.Networks.{Sound};
 ghost use Rattle.topology.specs.Tables.{networkOf};
-ghost use Rattle.network.specs.Tables.{table, Counted, memberWith, memberAt, membersFrom, reticulationTop, reticulationTopAt, earlierAt, indexFrom, crowdedFrom};
+ghost use Rattle.network.specs.Tables.{table, memberWith, memberAt, membersFrom, reticulationTopAt, earlierAt, indexFrom, crowdedFrom};
 
 fn member_with(s: u32, top: usize, c: usize) -> bool
     ensures { λ r. ⌜ r ≡ memberWith s top c ⌝ }
@@ -27,14 +28,13 @@ fn member_at(secondary: &[u32; 128], tops: &[u32; 128], c: usize, r: usize) -> b
     member_with(secondary[r], wide(tops[r]), c)
 }
 
-// The top of a reticulation's component; 0 of another node.
-fn reticulation_top(s: u32, top: u32) -> usize
-    ensures { λ r. ⌜ r ≡ reticulationTop s top ⌝ }
+// The top of each reticulation's component; 0 of another node.
+fn reticulation_tops(n: usize, secondary: &[u32; 128], tops: &[u32; 128]) -> [u32; 128]
+    requires { ⌜ n ≤ 127 ⌝ }
+    ensures { λ r. ⌜ r ≡ table n (reticulationTopAt (now (secondary .entry)) (now (tops .entry))) ⌝ }
 {
-    if s == 0 {
-        return 0;
-    }
-    wide(top)
+    let none = [0u32; 128];
+    by_kind(n, secondary, &none, tops)
 }
 
 // How many reticulations each component has, at its top.
@@ -42,16 +42,8 @@ pub fn members(n: usize, secondary: &[u32; 128], tops: &[u32; 128]) -> [u32; 128
     requires { ⌜ n ≤ 127 ⌝ }
     ensures { λ r. ⌜ r ≡ table n (membersFrom n (now (secondary .entry)) (now (tops .entry))) ⌝ }
 {
-    let mut out = [0u32; 128];
-    let mut v: usize = 0;
-    while v < n {
-        let w = v + 1;
-        let k = slot(n, reticulation_top(secondary[w], tops[w]));
-        out[k] = out[k] + 1;
-        v = w;
-    }
-    out[0] = 0;
-    out
+    let own = reticulation_tops(n, secondary, tops);
+    tables::child_counts(n, &own)
 }
 
 fn earlier_at(secondary: &[u32; 128], tops: &[u32; 128], c: usize, r: usize, q: usize) -> bool
@@ -88,11 +80,11 @@ fn index_next(
     v: usize,
 ) -> u32
     requires { ⌜ (n ≤ 127) × (v < n) ⌝ }
-    requires { ⌜ Counted n (reticulationTopAt (now secondary) (now tops)) v (now seen) ⌝ }
+    requires { ⌜ Counted n (table n (reticulationTopAt (now secondary) (now tops))) v (now seen) ⌝ }
     ensures { λ k. ⌜ k ≡ indexFrom n (now (secondary .entry)) (now (tops .entry)) (v + 1) ⌝ }
 {
     let r = v + 1;
-    let c = slot(n, wide(tops[r]));
+    let c = tables::slot(n, wide(tops[r]));
     if c == 0 {
         return index_at(n, secondary, tops, r);
     }
@@ -104,14 +96,14 @@ pub fn indices(n: usize, secondary: &[u32; 128], tops: &[u32; 128]) -> [u32; 128
     requires { ⌜ n ≤ 127 ⌝ }
     ensures { λ r. ⌜ r ≡ table n (indexFrom n (now (secondary .entry)) (now (tops .entry))) ⌝ }
 {
+    let own = reticulation_tops(n, secondary, tops);
     let mut seen = [0u32; 128];
     let mut out = [0u32; 128];
     let mut v: usize = 0;
     while v < n {
         let w = v + 1;
         out[w] = index_next(n, secondary, tops, &seen, v);
-        let k = slot(n, reticulation_top(secondary[w], tops[w]));
-        seen[k] = seen[k] + 1;
+        tables::count_next(n, &own, v, &mut seen);
         v = w;
     }
     out

@@ -1,10 +1,10 @@
-// Counts of entries of a table, such as the arcs out of a node.
+// Counts of entries of a table, and the entries of the reticulations or of the other nodes alone.
 ghost use mathlib.Core.Path.{_≡_};
 ghost use Prim.Native.Nat.{_≤_};
 ghost use Rattle.finite.specs.Tests.{same, tally};
 ghost use Rattle.finite.specs.Range.{children};
 ghost use Rattle.finite.specs.Tables.{at};
-ghost use Rattle.network.specs.Tables.{table, slotOf};
+ghost use Rattle.network.specs.Tables.{table, ofKind, byKind};
 
 pub fn wide(x: u32) -> usize
     ensures { λ r. ⌜ r ≡ x ⌝ }
@@ -46,29 +46,32 @@ pub fn count_of(n: usize, xs: &[u32; 128], x: usize) -> usize
     r
 }
 
-// Where a pass counts the key k: at k where that is a node, else at 0.
-pub fn slot(n: usize, k: usize) -> usize
-    ensures { λ r. ⌜ (r ≡ slotOf n k) × (r ≤ n) ⌝ }
+// An entry of a node with secondary parent s: `plain` where it is no reticulation, else `other`.
+fn of_kind(s: u32, plain: u32, other: u32) -> u32
+    ensures { λ r. ⌜ r ≡ ofKind s plain other ⌝ }
 {
-    if n < k {
-        return 0;
+    if s == 0 {
+        return plain;
     }
-    k
+    other
 }
 
-// How many of the entries 1 to n are each of 1 to n: the arcs out of each node, of the kind of arc that the table of parents holds.
-pub fn arcs_out(n: usize, parent: &[u32; 128]) -> [u32; 128]
+// Each node's entry in `plain` where it is no reticulation, else in `other`.
+pub fn by_kind(
+    n: usize,
+    secondary: &[u32; 128],
+    plain: &[u32; 128],
+    other: &[u32; 128],
+) -> [u32; 128]
     requires { ⌜ n ≤ 127 ⌝ }
-    ensures { λ r. ⌜ r ≡ table n (children n (at (now (parent .entry)))) ⌝ }
+    ensures { λ r. ⌜ r ≡ table n (byKind (now (secondary .entry)) (now (plain .entry)) (now (other .entry))) ⌝ }
 {
     let mut out = [0u32; 128];
     let mut v: usize = 0;
     while v < n {
         let w = v + 1;
-        let k = slot(n, wide(parent[w]));
-        out[k] = out[k] + 1;
+        out[w] = of_kind(secondary[w], plain[w], other[w]);
         v = w;
     }
-    out[0] = 0;
     out
 }

@@ -6,7 +6,6 @@ mod parents;
 pub mod shapes;
 
 use components::eleven;
-use counts::arcs_out;
 use parents::seven;
 use parents::six;
 use shapes::eight;
@@ -33,8 +32,8 @@ pub fn verdict(
     if seven(n, principal, secondary, stamp) {
         return 7;
     }
-    let principals = arcs_out(n, principal);
-    let secondaries = arcs_out(n, secondary);
+    let principals = tables::child_counts(n, principal);
+    let secondaries = tables::child_counts(n, secondary);
     if eight(n, principal, secondary, &principals, &secondaries) {
         return 8;
     }

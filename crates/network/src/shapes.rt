@@ -1,12 +1,12 @@
 // Refusals 8, 9 and 10: what a node is by its parents and arcs out, its species and its children.
+use super::counts::by_kind;
 use super::counts::count_of;
-use super::counts::slot;
 use super::counts::wide;
 ghost use mathlib.Core.Path.{_≡_};
 ghost use Prim.Native.Nat.{_≤_};
 ghost use Rattle.finite.specs.Range.{children};
 ghost use Rattle.network.specs.Refusals.{reticulationWith, innerWith, leafWith, shapeless, shapelessAt, refusal8, refusal9, onlyReticulationsAt, refusal10};
-ghost use Rattle.network.specs.ShortForms.{wrongSpeciesAt, plainParent, plainParentAt, onlyReticulations};
+ghost use Rattle.network.specs.ShortForms.{wrongSpeciesAt, plainParentAt, onlyReticulations};
 ghost use Rattle.network.specs.Tables.{table, ArcsOut};
 
 fn reticulation_with(p: u32, s: u32, a: u32, b: u32) -> bool
@@ -155,31 +155,14 @@ pub fn nine(
     false
 }
 
-// The principal parent of a node that is no reticulation; 0 of a reticulation.
-fn plain_parent(p: u32, s: u32) -> usize
-    ensures { λ r. ⌜ r ≡ plainParent p s ⌝ }
-{
-    if s == 0 {
-        return wide(p);
-    }
-    0
-}
-
 // The arcs out of each node that lead to no reticulation: all are principal.
 fn plain_arcs(n: usize, principal: &[u32; 128], secondary: &[u32; 128]) -> [u32; 128]
     requires { ⌜ n ≤ 127 ⌝ }
     ensures { λ r. ⌜ r ≡ table n (children n (plainParentAt (now (principal .entry)) (now (secondary .entry)))) ⌝ }
 {
-    let mut out = [0u32; 128];
-    let mut v: usize = 0;
-    while v < n {
-        let w = v + 1;
-        let k = slot(n, plain_parent(principal[w], secondary[w]));
-        out[k] = out[k] + 1;
-        v = w;
-    }
-    out[0] = 0;
-    out
+    let none = [0u32; 128];
+    let parents = by_kind(n, secondary, principal, &none);
+    tables::child_counts(n, &parents)
 }
 
 // 10: of a node with a principal and b secondary arcs out, of which k lead to no reticulation.

@@ -8,6 +8,7 @@ use lib.ListN.{length, getD, set, take, drop, replicate}
 use Rattle.finite.specs.Tests.{same, under}
 use Rattle.finite.specs.Range.{every}
 use Rattle.finite.specs.Tables.{at, filled}
+unfoldable pub use Rattle.finite.specs.Tables.{zeros}
 use Rattle.columns.specs.Lines.{fieldCount, lineLength, lineAt, lineOf, Small}
 use Rattle.columns.specs.declared.Cursor.{Cursor}
 use Rattle.columns.specs.declared.End.{End}
@@ -16,10 +17,6 @@ use Rattle.columns.specs.declared.Reading.{Reading}
 use Rattle.sheet.specs.declared.Header.{Header}
 use Rattle.sheet.specs.declared.Headed.{Headed}
 use Rattle.sheet.specs.declared.Headed.the-variants.{Header as accepted, Refused}
-
--- a table of zeros
-unfoldable pub zeros : List ℕ
-zeros = replicate 128 0
 
 -- whether a line was found
 abbrev pub found : End → Bool

@@ -1,11 +1,12 @@
 -- The turns of the pass that counts each child at its parent: after w numbers an entry of 1 to n is the count among these.
+-- A parent that is none of 1 to n counts at 0, which the end clears.
 -- Assumes nothing.
 use mathlib.Core.Path.{_≡_, refl, sym, ap, _∙_}
 use mathlib.Core.Logic.{_≢_}
 use mathlib.Core.List.{List}
 use Prim.Native.Nat.{ℕ, _+_, _≤_, _<_}
 use native.Mathlib.Omega.{arith}
-use lib.ListN.{length, set, length-set}
+use lib.ListN.{set, length-set}
 use lib.Seq.{getD-set-same, getD-set-other}
 use Rattle.finite.specs.Tests.{same}
 use Rattle.finite.specs.Range.{count, children}
@@ -14,14 +15,8 @@ use Rattle.finite.proofs.Cases.{byEq, byLess}
 use Rattle.finite.proofs.Tests.{is-same, not-same}
 use Rattle.finite.proofs.Count.{count-start, count-turn}
 use Rattle.finite.proofs.Tables.{zeros-at, zeros-long, zeros-ext}
-use Rattle.tables.specs.Children.{childCounts, inside}
+use Rattle.tables.specs.Children.{childCounts, inside, Counted}
 use Rattle.tables.proofs.Nexts.{inside-in, inside-out}
-
-pub record Counted (n : ℕ) (parents : List ℕ) (w : ℕ) (out : List ℕ) : Type 0 where
-  pub long : length out ≡ 128
-  pub within : (v : ℕ) → 1 ≤ v → v ≤ n → at out v ≡ children w (at parents) v
-  pub past : (v : ℕ) → n < v → at out v ≡ 0
-  pub small : (v : ℕ) → at out v ≤ w
 
 module _ (n : ℕ) (parents : List ℕ) (few : n ≤ 127) where
   pub counted-start : Counted n parents 0 zeros

@@ -1,8 +1,10 @@
 -- The children of the numbers 1 to n by a table of parents: entry x of `parents` is the parent of x.
 -- Assumes nothing.
+use mathlib.Core.Path.{_≡_}
 use mathlib.Core.Bool.{Bool, cond, _&&_}
 use mathlib.Core.List.{List}
-use Prim.Native.Nat.{ℕ}
+use Prim.Native.Nat.{ℕ, _≤_, _<_}
+use lib.ListN.{length}
 use Rattle.finite.specs.Tests.{same, under}
 use Rattle.finite.specs.Range.{first, children}
 use Rattle.finite.specs.Tables.{at, filled, zeros}
@@ -25,6 +27,13 @@ secondChildren n parents first = filled n zeros (λ v. next n parents (at first 
 -- how many children each has
 unfoldable pub childCounts : (n : ℕ) (parents : List ℕ) → List ℕ
 childCounts n parents = filled n zeros (children n (at parents))
+
+-- the table once the children 1..w are counted; entry 0 may hold any number up to w
+pub record Counted (n : ℕ) (parents : List ℕ) (w : ℕ) (out : List ℕ) : Type 0 where
+  pub long : length out ≡ 128
+  pub within : (v : ℕ) → 1 ≤ v → v ≤ n → at out v ≡ children w (at parents) v
+  pub past : (v : ℕ) → n < v → at out v ≡ 0
+  pub small : (v : ℕ) → at out v ≤ w
 
 -- p where it is none above n, else 0; and where w is above the entry of p, else 0
 unfoldable pub inside : ℕ → ℕ → ℕ

@@ -1,8 +1,8 @@
 // Tables of a table of parents, each in one pass: the lowest child of each number, the next one, and how many it has. Entry v is about v of 1 to n;
 // any entries will do, for what is no number of 1 to n has no children.
 ghost use mathlib.Core.Path.{_≡_};
-ghost use Prim.Native.Nat.{_≤_};
-ghost use Rattle.tables.specs.Children.{firstChildren, secondChildren, childCounts, inside, insideAfter};
+ghost use Prim.Native.Nat.{_+_, _≤_, _<_};
+ghost use Rattle.tables.specs.Children.{firstChildren, secondChildren, childCounts, inside, insideAfter, Counted};
 
 fn wide(x: u32) -> usize
     ensures { λ r. ⌜ r ≡ x ⌝ }
@@ -11,7 +11,7 @@ fn wide(x: u32) -> usize
 }
 
 // The parent p where it is one of 1 to n, else 0: entry 0 takes what no other entry does, and is cleared at the end.
-fn slot(n: usize, p: usize) -> usize
+pub fn slot(n: usize, p: usize) -> usize
     ensures { λ r. ⌜ (r ≡ inside n p) × (r ≤ n) ⌝ }
 {
     if n < p {
@@ -58,6 +58,17 @@ pub fn first_children(n: usize, parents: &[u32; 128]) -> [u32; 128]
     second_children(n, parents, &none)
 }
 
+// Child v + 1 counts at its parent, the children up to v being counted.
+pub fn count_next(n: usize, parents: &[u32; 128], v: usize, out: &mut [u32; 128])
+    requires { ⌜ (n ≤ 127) × (v < n) ⌝ }
+    requires { ⌜ Counted n (now parents) v (now out) ⌝ }
+    ensures { λ _. ⌜ Counted n (now (parents .entry)) (v + 1) (now (out .exit)) ⌝ }
+{
+    let p = wide(parents[v + 1]);
+    let q = slot(n, p);
+    out[q] = out[q] + 1;
+}
+
 // How many children each has.
 pub fn child_counts(n: usize, parents: &[u32; 128]) -> [u32; 128]
     requires { ⌜ n ≤ 127 ⌝ }
@@ -66,11 +77,8 @@ pub fn child_counts(n: usize, parents: &[u32; 128]) -> [u32; 128]
     let mut out = [0u32; 128];
     let mut v: usize = 0;
     while v < n {
-        let w = v + 1;
-        let p = wide(parents[w]);
-        let q = slot(n, p);
-        out[q] = out[q] + 1;
-        v = w;
+        count_next(n, parents, v, &mut out);
+        v += 1;
     }
     out[0] = 0;
     out

@@ -19,26 +19,26 @@ seven-requires c κs = (search needs, (told _ _ _ (c .before .six .ensures) (c .
 returns-2 : tie.Need-returns-2
 returns-2 c = verdict-is-7 _ _ _ _ _ (told _ _ _ (c .before .before .before .six .ensures) (c .before .before .if1 .left)) (told _ _ _ (c .before .seven .ensures) (c .if2 .taken))
 
-arcs-out-requires : tie.Need-arcs-out-requires
-arcs-out-requires c κs = search needs
+child-counts-requires : tie.Need-child-counts-requires
+child-counts-requires c κs = search needs
 
-arcs-out-requires-2 : tie.Need-arcs-out-requires-2
-arcs-out-requires-2 c κs = search needs
+child-counts-requires-2 : tie.Need-child-counts-requires-2
+child-counts-requires-2 c κs = search needs
 
 eight-requires : tie.Need-eight-requires
-eight-requires c κs = (search needs, record { first = c .before .before .before .arcs-out .ensures; second = c .before .before .arcs-out2 .ensures })
+eight-requires c κs = (search needs, record { first = c .before .before .before .child-counts .ensures; second = c .before .before .child-counts2 .ensures })
 
 returns-3 : tie.Need-returns-3
 returns-3 c = verdict-is-8 _ _ _ _ _ (told _ _ _ (c .before .before .before .before .before .before .before .before .before .six .ensures) (c .before .before .before .before .before .before .before .before .if1 .left)) (told _ _ _ (c .before .before .before .before .before .before .before .seven .ensures) (c .before .before .before .before .before .before .if2 .left)) (told _ _ _ (c .before .eight .ensures) (c .if3 .taken))
 
 nine-requires : tie.Need-nine-requires
-nine-requires c κs = (search needs, record { first = c .before .before .before .before .before .before .before .arcs-out .ensures; second = c .before .before .before .before .before .before .arcs-out2 .ensures })
+nine-requires c κs = (search needs, record { first = c .before .before .before .before .before .before .before .child-counts .ensures; second = c .before .before .before .before .before .before .child-counts2 .ensures })
 
 returns-4 : tie.Need-returns-4
 returns-4 c = verdict-is-9 _ _ _ _ _ (told _ _ _ (c .before .before .before .before .before .before .before .before .before .before .before .before .before .six .ensures) (c .before .before .before .before .before .before .before .before .before .before .before .before .if1 .left)) (told _ _ _ (c .before .before .before .before .before .before .before .before .before .before .before .seven .ensures) (c .before .before .before .before .before .before .before .before .before .before .if2 .left)) (told _ _ _ (c .before .before .before .before .before .eight .ensures) (c .before .before .before .before .if3 .left)) (told _ _ _ (c .before .nine .ensures) (c .if4 .taken))
 
 ten-requires : tie.Need-ten-requires
-ten-requires c κs = (search needs, record { first = c .before .before .before .before .before .before .before .before .before .before .before .arcs-out .ensures; second = c .before .before .before .before .before .before .before .before .before .before .arcs-out2 .ensures })
+ten-requires c κs = (search needs, record { first = c .before .before .before .before .before .before .before .before .before .before .before .child-counts .ensures; second = c .before .before .before .before .before .before .before .before .before .before .child-counts2 .ensures })
 
 returns-5 : tie.Need-returns-5
 returns-5 c = verdict-is-10 _ _ _ _ _ (told _ _ _ (c .before .before .before .before .before .before .before .before .before .before .before .before .before .before .before .before .before .six .ensures) (c .before .before .before .before .before .before .before .before .before .before .before .before .before .before .before .before .if1 .left)) (told _ _ _ (c .before .before .before .before .before .before .before .before .before .before .before .before .before .before .before .seven .ensures) (c .before .before .before .before .before .before .before .before .before .before .before .before .before .before .if2 .left)) (told _ _ _ (c .before .before .before .before .before .before .before .before .before .eight .ensures) (c .before .before .before .before .before .before .before .before .if3 .left)) (told _ _ _ (c .before .before .before .before .before .nine .ensures) (c .before .before .before .before .if4 .left)) (told _ _ _ (c .before .ten .ensures) (c .if5 .taken))
@@ -60,8 +60,8 @@ verdict-spec =
     returns
     seven-requires
     returns-2
-    arcs-out-requires
-    arcs-out-requires-2
+    child-counts-requires
+    child-counts-requires-2
     eight-requires
     returns-3
     nine-requires

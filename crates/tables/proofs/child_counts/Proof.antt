@@ -1,9 +1,9 @@
 -- `tables::child_counts` meets its contract. The invariant: each entry of 1 to n counts the children passed.
 -- Assumes nothing.
 use Prim.Native.Nat.{_-_, _≤_}
-use native.Mathlib.Omega.{arith}
 use Rattle.finite.specs.Tables.{zeros}
-use Rattle.tables.proofs.Counts.{Counted, count-children}
+use Rattle.tables.specs.Children.{Counted}
+use Rattle.tables.proofs.Counts.{count-children}
 use borrow.Author.Needs.{needs}
 use Rattle.tables.proofs.child_counts.Statement.{statement}
 use Rattle.tables.proofs.child_counts.Tie as tie
@@ -18,44 +18,20 @@ loop-holds : tie.Need-loop-holds Inv-loop μ-loop
 unfolding zeros
 loop-holds c = search (needs, count-children)
 
-add-w : tie.Need-add-w Inv-loop μ-loop
-add-w c = search needs
+count-next-requires : tie.Need-count-next-requires Inv-loop μ-loop
+count-next-requires c κs = search needs
 
-mul-wide : tie.Need-mul-wide Inv-loop μ-loop
-mul-wide c = search needs
-
-element-copy-out-wide : tie.Need-element-copy-out-wide Inv-loop μ-loop
-element-copy-out-wide c = search needs
-
-wide-requires : tie.Need-wide-requires Inv-loop μ-loop
-wide-requires c κs = search needs
-
-slot-requires : tie.Need-slot-requires Inv-loop μ-loop
-slot-requires c κs = search needs
-
-mul-out : tie.Need-mul-out Inv-loop μ-loop
-mul-out c = search needs
-
-array-read-out : tie.Need-array-read-out Inv-loop μ-loop
-array-read-out c = search needs
-
-add-out : tie.Need-add-out Inv-loop μ-loop
-add-out c = omega (arith, c .before .before .before .before .loop .inv .1 .small (c .slot .result))
-
-mul-out-2 : tie.Need-mul-out-2 Inv-loop μ-loop
-mul-out-2 c = search needs
-
-array-write-out : tie.Need-array-write-out Inv-loop μ-loop
-array-write-out c = search needs
+add-v : tie.Need-add-v Inv-loop μ-loop
+add-v c = search needs
 
 loop-less : tie.Need-loop-less Inv-loop μ-loop
 loop-less c = search needs
 
 loop-again : tie.Need-loop-again Inv-loop μ-loop
-loop-again c = search (needs, count-children)
+loop-again c = search needs
 
-array-write-out-2 : tie.Need-array-write-out-2 Inv-loop μ-loop
-array-write-out-2 c = search needs
+array-write-out : tie.Need-array-write-out Inv-loop μ-loop
+array-write-out c = search needs
 
 returns : tie.Need-returns Inv-loop μ-loop
 returns c = search (needs, count-children)
@@ -67,17 +43,9 @@ child-counts-spec =
     Inv-loop
     μ-loop
     loop-holds
-    add-w
-    mul-wide
-    element-copy-out-wide
-    wide-requires
-    slot-requires
-    mul-out
-    array-read-out
-    add-out
-    mul-out-2
-    array-write-out
+    count-next-requires
+    add-v
     loop-less
     loop-again
-    array-write-out-2
+    array-write-out
     returns)

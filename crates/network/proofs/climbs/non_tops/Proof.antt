@@ -2,8 +2,9 @@
 -- Assumes nothing.
 use Prim.Native.Nat.{_-_, _≤_}
 use borrow.Author.Needs.{needs}
+use Rattle.finite.specs.Tables.{zeros}
 use Rattle.topology.specs.Tables.{networkOf}
-use Rattle.network.specs.Tables.{zeros, MarkedWays}
+use Rattle.network.specs.Tables.{MarkedWays}
 use Rattle.network.proofs.Ways.{ways-none, ways-end}
 use Rattle.network.proofs.climbs.non_tops.Statement.{statement}
 use Rattle.network.proofs.climbs.non_tops.Tie as tie

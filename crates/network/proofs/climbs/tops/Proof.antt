@@ -3,11 +3,11 @@
 use Prim.Native.Nat.{_-_, _≤_}
 use mathlib.Core.Path.{_≡_}
 use borrow.Author.Needs.{needs}
-use Rattle.finite.specs.Tables.{filled}
+use Rattle.finite.specs.Tables.{zeros, filled}
 use Rattle.finite.proofs.Tables.{fill-loop}
 use Rattle.topology.specs.Components.{component}
 use Rattle.topology.specs.Tables.{networkOf}
-use Rattle.network.specs.Tables.{zeros, table}
+use Rattle.network.specs.Tables.{table}
 use Rattle.network.proofs.climbs.tops.Statement.{statement}
 use Rattle.network.proofs.climbs.tops.Tie as tie
 

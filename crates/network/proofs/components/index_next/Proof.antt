@@ -33,7 +33,7 @@ element-copy-out-result : tie.Need-element-copy-out-result
 element-copy-out-result c = search needs
 
 returns-2 : tie.Need-returns-2
-returns-2 c = index-seen _ _ _ _ _ _ _ (c .before .before .before .before .before .pre .0 .1) (c .before .before .before .before .before .pre .1) (c .before .before .slot .ensures .0) (c .before .before .before .wide .ensures) (c .before .if1 .left)
+returns-2 c = index-seen _ _ _ _ _ _ _ (c .before .before .before .before .before .pre .0 .0) (c .before .before .before .before .before .pre .0 .1) (c .before .before .before .before .before .pre .1) (c .before .before .slot .ensures .0) (c .before .before .before .wide .ensures) (c .before .if1 .left)
 
 pub index-next-spec : {M : Type 1} → statement M
 index-next-spec =

@@ -1,93 +1,18 @@
--- The pass counts each reticulation at its top's slot; the end clears slot 0. So each entry is the number of members of the component with that top.
+-- The tops of the reticulations are counted. So each entry is the number of members of the component with that top.
 -- Assumes nothing.
-use Prim.Native.Nat.{_+_, _-_, _≤_}
-use native.Mathlib.Omega.{arith}
-use borrow.Author.Needs.{needs}
-use Rattle.network.specs.Tables.{zeros, Counted, reticulationTopAt}
-use Rattle.network.proofs.Histogram.{counted-start, counted-turn, counted-done}
 use Rattle.network.proofs.TopTables.{members-counted}
+use borrow.Author.Needs.{needs}
 use Rattle.network.proofs.components.members.Statement.{statement}
 use Rattle.network.proofs.components.members.Tie as tie
 
-abbrev Inv-loop : tie.InvT-loop
-Inv-loop n secondary tops out₀ v₀ out v = (v ≤ n) × Counted n (reticulationTopAt secondary tops) v out
+reticulation-tops-requires : tie.Need-reticulation-tops-requires
+reticulation-tops-requires c κs = search needs
 
-abbrev μ-loop : tie.MeasureT-loop
-μ-loop n secondary tops out₀ v₀ out v = n - v
+child-counts-requires : tie.Need-child-counts-requires
+child-counts-requires c κs = search needs
 
-loop-holds : tie.Need-loop-holds Inv-loop μ-loop
-unfolding zeros
-loop-holds c = (search needs, counted-start _ _)
-
-add-w : tie.Need-add-w Inv-loop μ-loop
-add-w c = search needs
-
-mul-reticulation-top : tie.Need-mul-reticulation-top Inv-loop μ-loop
-mul-reticulation-top c = search needs
-
-element-copy-out-reticulation-top : tie.Need-element-copy-out-reticulation-top Inv-loop μ-loop
-element-copy-out-reticulation-top c = search needs
-
-mul-reticulation-top-2 : tie.Need-mul-reticulation-top-2 Inv-loop μ-loop
-mul-reticulation-top-2 c = search needs
-
-element-copy-out-reticulation-top-2 : tie.Need-element-copy-out-reticulation-top-2 Inv-loop μ-loop
-element-copy-out-reticulation-top-2 c = search needs
-
-reticulation-top-requires : tie.Need-reticulation-top-requires Inv-loop μ-loop
-reticulation-top-requires c κs = search needs
-
-slot-requires : tie.Need-slot-requires Inv-loop μ-loop
-slot-requires c κs = search needs
-
-mul-out : tie.Need-mul-out Inv-loop μ-loop
-mul-out c = search needs
-
-array-read-out : tie.Need-array-read-out Inv-loop μ-loop
-array-read-out c = search needs
-
-add-out : tie.Need-add-out Inv-loop μ-loop
-add-out c = omega (arith, c .before .before .before .before .before .loop .inv .1 .small (c .slot .result))
-
-mul-out-2 : tie.Need-mul-out-2 Inv-loop μ-loop
-mul-out-2 c = search needs
-
-array-write-out : tie.Need-array-write-out Inv-loop μ-loop
-array-write-out c = search needs
-
-loop-less : tie.Need-loop-less Inv-loop μ-loop
-loop-less c = search needs
-
-loop-again : tie.Need-loop-again Inv-loop μ-loop
-unfolding reticulationTopAt
-loop-again c = (search needs, counted-turn _ _ _ _ _ _ (c .before .before .before .before .before .loop .inv .1) (c .before .before .before .before .before .before .pre) (c .slot .ensures .0) (c .before .reticulation-top .ensures))
-
-array-write-out-2 : tie.Need-array-write-out-2 Inv-loop μ-loop
-array-write-out-2 c = search needs
-
-returns : tie.Need-returns Inv-loop μ-loop
-returns c = members-counted _ _ _ _ (counted-done _ _ _ _ (c .before .loop .inv .0) (search needs) (c .before .before .pre) (c .before .loop .inv .1))
+returns : tie.Need-returns
+returns c = members-counted _ _ _ _ _ (search needs) (c .before .before .reticulation-tops .ensures) (c .child-counts .ensures)
 
 pub members-spec : {M : Type 1} → statement M
-members-spec =
-    tie.close
-    (tie.spec
-    Inv-loop
-    μ-loop
-    loop-holds
-    add-w
-    mul-reticulation-top
-    element-copy-out-reticulation-top
-    mul-reticulation-top-2
-    element-copy-out-reticulation-top-2
-    reticulation-top-requires
-    slot-requires
-    mul-out
-    array-read-out
-    add-out
-    mul-out-2
-    array-write-out
-    loop-less
-    loop-again
-    array-write-out-2
-    returns)
+members-spec = tie.close (tie.spec reticulation-tops-requires child-counts-requires returns)
