@@ -6,12 +6,12 @@ use mathlib.Core.Path.{_≡_, refl, sym, ap, _∙_, subst, fun-ext}
 use mathlib.Core.Logic.{_≢_, _↔_}
 use mathlib.Core.Bool.{Bool, true, false, cond, not, _&&_}
 use mathlib.Core.List.{List, [], _∷_, _++_}
-use lib.ListN.{length, getD, drop, replicate, length-replicate}
+use lib.ListN.{length, drop}
 use native.Mathlib.Omega.{arith}
 use Rattle.finite.specs.Tests.{same, under}
 use Rattle.finite.specs.Range.{every}
 use Rattle.finite.specs.Tables.{at, filled, within}
-use Rattle.finite.proofs.Tables.{filled-within, within-in, within-out, within-zero}
+use Rattle.finite.proofs.Tables.{zeros-long, zeros-at, filled-within, within-in, within-out, within-zero}
 use Rattle.finite.proofs.Cases.{byBool, byEq, byLess, clash}
 use Rattle.finite.proofs.Tests.{is-same, not-same, is-under, not-under, and-no-l, and-no-r, told-not-yes, told-not-no, not-false}
 use Rattle.columns.specs.Lines.{written}
@@ -172,19 +172,14 @@ module _ (s : List ℕ) (h : Header) (k : HeaderIs s h) where
     )
 
 -- every entry of a table of the sheet has a field
-zeros-at : (k v : ℕ) → _≡_ {A = ℕ} (getD (replicate k 0) v 0) 0
-zeros-at zero v = refl
-zeros-at (suc k) zero = refl
-zeros-at (suc k) (suc v) = zeros-at k v
-
 within-small : (n : ℕ) (f : ℕ → ℕ) (v : ℕ) → ((w : ℕ) → f w < 1000000) → within n f v < 1000000
 unfolding within
 within-small n f v h = byBool (under 0 v && under v (suc n)) (λ t. rw t (h v)) (λ t. rw t (omega arith))
 
 pub stamps-small : (s : List ℕ) → nodes s ≤ 127 → (v : ℕ) → at (nodeTable s 3) v < 1000000
-unfolding nodeTable zeros
+unfolding nodeTable
 stamps-small s l v = subst (λ (x : ℕ). x < 1000000)
-    (sym (ap (λ (g : ℕ → ℕ). g v) (filled-within (nodes s) (replicate 128 0) (λ w. cell s w 3) (omega (arith, length-replicate {A = ℕ} 128 0)) (zeros-at 128))))
+    (sym (ap (λ (g : ℕ → ℕ). g v) (filled-within (nodes s) zeros (λ w. cell s w 3) (omega (arith, zeros-long)) zeros-at)))
     (within-small (nodes s) (λ w. cell s w 3) v (λ w. cell-small s w 3))
 
 -- a table filled at 1..m holds nothing past m
@@ -193,8 +188,7 @@ within-within m f = fun-ext (λ v. byEq v 0 (λ e. rw e (within-zero m f ∙ sym
     (λ d. byLess m v (λ l. within-out m f v l ∙ sym (within-out m (within m f) v l)) (λ l. sym (within-in m (within m f) v (omega arith) l))))
 
 clear-filled : (m : ℕ) (f : ℕ → ℕ) → m ≤ 127 → at (filled m zeros f) ≡ within m (at (filled m zeros f))
-unfolding zeros
-clear-filled m f l = let e = filled-within m (replicate 128 0) f (omega (arith, length-replicate {A = ℕ} 128 0)) (zeros-at 128) in
+clear-filled m f l = let e = filled-within m zeros f (omega (arith, zeros-long)) zeros-at in
     e ∙ within-within m f ∙ ap (within m) (sym e)
 
 pub sized : (s : List ℕ) (h : Header) (k : HeaderIs s h) (cells : List ℕ) → cells ≡ cellsOf s (1 + h .nodes + h .genes) → (b w : ℕ) → leastBytes ≤ b → leastWords ≤ w

@@ -1,7 +1,7 @@
 -- The sheet and the refusals 3, 4 and 5 (01, "The sheet" and "Refusals", the typist's).
 -- Assumes nothing.
 use Prim.Native.Nat.{ℕ, zero, suc, _+_, _*_, _≤_}
-use mathlib.Core.Bool.{Bool, true, false, cond, _&&_, _||_, not}
+use mathlib.Core.Bool.{Bool, true, false, cond, _&&_, not}
 use mathlib.Core.List.{List}
 use mathlib.Core.Path.{_≡_}
 use lib.ListN.{length, getD, set, take, drop, replicate}
@@ -10,7 +10,6 @@ use Rattle.finite.specs.Range.{every}
 use Rattle.finite.specs.Tables.{at, filled}
 unfoldable pub use Rattle.finite.specs.Tables.{zeros}
 use Rattle.columns.specs.Lines.{fieldCount, lineLength, lineAt, lineOf, Small}
-use Rattle.columns.specs.declared.Cursor.{Cursor}
 use Rattle.columns.specs.declared.End.{End}
 use Rattle.columns.specs.declared.End.the-variants.{After, Malformed}
 use Rattle.columns.specs.declared.Reading.{Reading}
