@@ -157,13 +157,12 @@ pub fn left_children(m: usize, parent: &[u32; 128]) -> [u32; 128]
     tables::first_children(m, parent)
 }
 
-// Each gene's other child, 0 for a leaf gene.
-pub fn right_children(m: usize, parent: &[u32; 128]) -> [u32; 128]
-    requires { ⌜ m ≤ 127 ⌝ }
+// Each gene's other child, 0 for a leaf gene, given the lowest-numbered ones.
+pub fn right_children(m: usize, parent: &[u32; 128], left: &[u32; 128]) -> [u32; 128]
+    requires { ⌜ (m ≤ 127) × (now left ≡ leftTable m (now parent)) ⌝ }
     ensures { λ r. ⌜ r ≡ rightTable m (now (parent .entry)) ⌝ }
 {
-    let left = tables::first_children(m, parent);
-    tables::second_children(m, parent, &left)
+    tables::second_children(m, parent, left)
 }
 
 fn leaf_of(

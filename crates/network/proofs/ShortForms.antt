@@ -14,7 +14,7 @@ use Rattle.finite.proofs.Cases.{byBool, byEq, clash}
 use Rattle.finite.proofs.Tests.{is-same, same-is, not-same, same-not, test-iff, or-yes-l, or-yes-r, or-r, not-true, not-yes, not-no, told-not-yes, told-not-no}
 use Rattle.finite.proofs.Every.{some-at, is-some, every-at, is-every}
 use Rattle.finite.proofs.Count.{count-two, count-some, count-find, count-zero, zero-count}
-use Rattle.finite.proofs.Tables.{zeros-at}
+use Rattle.finite.proofs.Tables.{zeros-at, zeros-long, filled-in}
 use Rattle.tables.specs.Children.{childCounts}
 use Rattle.network.specs.Refusals.{Numbered, shapeless, shapelessAt, leafWith, leafAt, refusal9, Refusal9, leaf-without, other-with, two-alike, childAt, reticulationIfChild, onlyReticulationsAt, Child, by-principal, by-secondary}
 use Rattle.network.specs.ShortForms.{wrongSpecies, wrongSpeciesAt, plainParentAt, onlyReticulations}
@@ -161,3 +161,8 @@ module _ (n : ℕ) (principal secondary principals secondaries : List ℕ) (v : 
     pub borne-told : (c : ℕ) → not r ≡ false → (x ≡ 0 → ⊥) → c ≡ children n (at species) x → not (same c 1) ≡ wrongSpeciesAt n principal secondary species v
     unfolding wrongSpeciesAt wrongSpecies
     borne-told c t z h = rw (told-not-yes r (leafAt n principal secondary v) leaf-told t, not-same (λ (y : at species v ≡ 0). z (q ∙ y)), h, q)
+
+-- a species of a number up to n is counted in the table
+pub counted-in : (n : ℕ) (species counts : List ℕ) → n ≤ 127 → counts ≡ childCounts n species → (k r : ℕ) → k ≢ 0 → k ≤ n → r ≡ at counts k → r ≡ children n (at species) k
+unfolding childCounts
+counted-in n species counts few e k r d l q = q ∙ rw e (filled-in n zeros (children n (at species)) k (omega arith) l (omega (arith, zeros-long)))

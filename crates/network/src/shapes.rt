@@ -3,8 +3,11 @@ use super::counts::by_kind;
 use super::counts::count_of;
 use super::counts::wide;
 ghost use mathlib.Core.Path.{_≡_};
+ghost use mathlib.Core.Logic.{_≢_};
 ghost use Prim.Native.Nat.{_≤_};
 ghost use Rattle.finite.specs.Range.{children};
+ghost use Rattle.finite.specs.Tables.{at};
+ghost use Rattle.tables.specs.Children.{childCounts};
 ghost use Rattle.network.specs.Refusals.{reticulationWith, innerWith, leafWith, shapeless, shapelessAt, refusal8, refusal9, onlyReticulationsAt, refusal10};
 ghost use Rattle.network.specs.ShortForms.{wrongSpeciesAt, plainParentAt, onlyReticulations};
 ghost use Rattle.network.specs.Tables.{table, ArcsOut};
@@ -100,6 +103,17 @@ pub fn eight(
     false
 }
 
+// How many nodes bear species k. Species are most often numbered from 1, so those up to n are counted in a table, and only others one by one.
+fn bearers(n: usize, species: &[u32; 128], counts: &[u32; 128], k: usize) -> usize
+    requires { ⌜ (n ≤ 127) × (k ≢ 0) × (now counts ≡ childCounts n (now species)) ⌝ }
+    ensures { λ r. ⌜ r ≡ children n (at (now (species .entry))) k ⌝ }
+{
+    if k <= n {
+        return wide(counts[k]);
+    }
+    count_of(n, species, k)
+}
+
 // 9: of one node. Only a leaf with a species asks how many nodes have that.
 fn wrong_species_at(
     n: usize,
@@ -108,10 +122,12 @@ fn wrong_species_at(
     species: &[u32; 128],
     principals: &[u32; 128],
     secondaries: &[u32; 128],
+    counts: &[u32; 128],
     v: usize,
 ) -> bool
     requires { ⌜ (n ≤ 127) × (1 ≤ v) × (v ≤ n) ⌝ }
     requires { ⌜ ArcsOut n (now principal) (now secondary) (now principals) (now secondaries) ⌝ }
+    requires { ⌜ now counts ≡ childCounts n (now species) ⌝ }
     ensures { λ r. ⌜ r ≡ wrongSpeciesAt n (now (principal .entry)) (now (secondary .entry)) (now (species .entry)) v ⌝ }
 {
     let k = wide(species[v]);
@@ -121,7 +137,7 @@ fn wrong_species_at(
     if k == 0 {
         return true;
     }
-    count_of(n, species, k) != 1
+    bearers(n, species, counts, k) != 1
 }
 
 // 9.
@@ -137,6 +153,7 @@ pub fn nine(
     requires { ⌜ ArcsOut n (now principal) (now secondary) (now principals) (now secondaries) ⌝ }
     ensures { λ r. ⌜ r ≡ refusal9 n (now (principal .entry)) (now (secondary .entry)) (now (species .entry)) ⌝ }
 {
+    let counts = tables::child_counts(n, species);
     let mut v: usize = 0;
     while v < n {
         if wrong_species_at(
@@ -146,6 +163,7 @@ pub fn nine(
             species,
             principals,
             secondaries,
+            &counts,
             v + 1,
         ) {
             return true;

@@ -1,21 +1,28 @@
 -- No node tested so far has a wrong species; that no node has is what 01 asks (`nine-told`).
 -- Assumes nothing.
+use borrow.Author.Needs.{needs}
 use Prim.Native.Nat.{_-_, _≤_}
 use mathlib.Core.Path.{_≡_}
 use mathlib.Core.Bool.{false}
-use borrow.Author.Needs.{needs}
 use Rattle.finite.specs.Range.{some}
 use Rattle.network.specs.ShortForms.{wrongSpeciesAt}
 use Rattle.network.proofs.ShortForms.{nine-told}
 use Rattle.network.proofs.Loops.{some-loop}
 use Rattle.network.proofs.shapes.nine.Statement.{statement}
 use Rattle.network.proofs.shapes.nine.Tie as tie
+use Rattle.network.proofs.shapes.nine.Reads as reads
+use Rattle.network.proofs.shapes.nine.Lts as lts
+use Rattle.network.proofs.shapes.wrong_species_at.Reads as wrong-species-at-reads
+use Rattle.tables.proofs.child_counts.Reads as child-counts-reads
 
 abbrev Inv-loop : tie.InvT-loop
-Inv-loop n principal secondary species principals secondaries v₀ v = (v ≤ n) × (some v (wrongSpeciesAt n principal secondary species) ≡ false)
+Inv-loop n principal secondary species principals secondaries counts v₀ v = (v ≤ n) × (some v (wrongSpeciesAt n principal secondary species) ≡ false)
 
 abbrev μ-loop : tie.MeasureT-loop
-μ-loop n principal secondary species principals secondaries v₀ v = n - v
+μ-loop n principal secondary species principals secondaries counts v₀ v = n - v
+
+child-counts-requires : tie.Need-child-counts-requires Inv-loop μ-loop
+child-counts-requires c κs = search needs
 
 loop-holds : tie.Need-loop-holds Inv-loop μ-loop
 loop-holds c = search (needs, some-loop)
@@ -47,6 +54,7 @@ nine-spec =
     (tie.spec
     Inv-loop
     μ-loop
+    child-counts-requires
     loop-holds
     add-wrong-species-at
     wrong-species-at-requires

@@ -38,17 +38,17 @@ leaf-with-requires c κs = search needs
 
 returns : tie.Need-returns
 unfolding same
-returns c = other-told _ _ _ _ _ _ (c .before .before .before .before .before .before .before .pre .0) (c .before .before .before .before .before .before .before .pre .1) _ _ (c .before .leaf-with .ensures) _ (c .before .before .before .before .before .wide .ensures) (c .if1 .taken)
+returns c = other-told _ _ _ _ _ _ (c .before .before .before .before .before .before .before .pre .0) (c .before .before .before .before .before .before .before .pre .1 .0) _ _ (c .before .leaf-with .ensures) _ (c .before .before .before .before .before .wide .ensures) (c .if1 .taken)
 
 returns-2 : tie.Need-returns-2
-returns-2 c = bare-told _ _ _ _ _ _ (c .before .before .before .before .before .before .before .before .pre .0) (c .before .before .before .before .before .before .before .before .pre .1) _ _ (c .before .before .leaf-with .ensures) _ (c .before .before .before .before .before .before .wide .ensures) (c .before .if1 .left) (c .if2 .taken)
+returns-2 c = bare-told _ _ _ _ _ _ (c .before .before .before .before .before .before .before .before .pre .0) (c .before .before .before .before .before .before .before .before .pre .1 .0) _ _ (c .before .before .leaf-with .ensures) _ (c .before .before .before .before .before .before .wide .ensures) (c .before .if1 .left) (c .if2 .taken)
 
-count-of-requires : tie.Need-count-of-requires
-count-of-requires c κs = search needs
+bearers-requires : tie.Need-bearers-requires
+bearers-requires c κs = search needs
 
 returns-3 : tie.Need-returns-3
 unfolding same
-returns-3 c = borne-told _ _ _ _ _ _ (c .before .before .before .before .before .before .before .before .before .pre .0) (c .before .before .before .before .before .before .before .before .before .pre .1) _ _ (c .before .before .before .leaf-with .ensures) _ (c .before .before .before .before .before .before .before .wide .ensures) _ (c .before .before .if1 .left) (c .before .if2 .left) (c .count-of .ensures .0)
+returns-3 c = borne-told _ _ _ _ _ _ (c .before .before .before .before .before .before .before .before .before .pre .0) (c .before .before .before .before .before .before .before .before .before .pre .1 .0) _ _ (c .before .before .before .leaf-with .ensures) _ (c .before .before .before .before .before .before .before .wide .ensures) _ (c .before .before .if1 .left) (c .before .if2 .left) (c .bearers .ensures)
 
 pub wrong-species-at-spec : {M : Type 1} → statement M
 wrong-species-at-spec =
@@ -66,5 +66,5 @@ wrong-species-at-spec =
     leaf-with-requires
     returns
     returns-2
-    count-of-requires
+    bearers-requires
     returns-3)
