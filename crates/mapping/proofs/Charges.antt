@@ -28,7 +28,7 @@ use Rattle.reconciliation.proofs.Bounds.{transfers-le, losses-le}
 use Rattle.mapping.specs.Switched.{switchedOf, taken, Switched, Below, forksTable}
 use Rattle.mapping.specs.Genes.{genesOf, Family, childHere, eventFrom, leavesFrom, wayOf, betweenOf, lossesFrom, transfersAt, lossesAt, placeAt, placeTable, eventTable}
 use Rattle.mapping.specs.Score.{costsOf, Cheap}
-use Rattle.mapping.specs.Charges.{passTable, weightTable, Weights, pairBy, Skipped, Meeting, wayCharge, pairCharge, chargeAt, Paired, ChargedHere}
+use Rattle.mapping.specs.Charges.{weightTable, Weights, pairBy, Skipped, Meeting, wayCharge, pairCharge, chargeAt, Paired, ChargedHere}
 use Rattle.mapping.specs.declared.UnitCosts.{UnitCosts}
 use Rattle.mapping.proofs.Adding.{times}
 use Rattle.mapping.proofs.Climbs.{on-low, below-lower}
@@ -65,24 +65,18 @@ module _ (d l b x y px py r : ℕ) where
 
 pub ruleset pair-laws = (pair-both, pair-left, pair-right, pair-none, skipped-left, skipped-right)
 
--- the tables of weights
-module _ (n l : ℕ) (forks : List ℕ) (few : n ≤ 127) (ll : l ≤ 99) (one : (v : ℕ) → at forks v ≤ 1) where
-  pub pass-low : (v : ℕ) → at (passTable n l forks) v ≤ l
-  unfolding passTable
-  pass-low = held-low n l (λ v. l * at forks v) few (λ v _ _. omega (arith, times {a = l} {b = at forks v} {c = l} {d = 1} (omega arith) (one v), mul-one l))
-
-  pub pass-at : (v : ℕ) → 1 ≤ v → v ≤ n → at (passTable n l forks) v ≡ l * at forks v
-  unfolding passTable
-  pass-at v a b = held-in n (λ v. l * at forks v) few v a b
-
-module _ (n t : ℕ) (on pass : List ℕ) (few : n ≤ 127) (lt : t ≤ 99) (one : (v : ℕ) → at on v ≤ 1) (low : (v : ℕ) → at pass v ≤ 99) where
-  pub weight-low : Weights (weightTable n t on pass)
+-- the table of weights
+module _ (n : ℕ) (u : UnitCosts) (on forks : List ℕ) (few : n ≤ 127) (cheap : Cheap u) (on-one : (v : ℕ) → at on v ≤ 1) (fork-one : (v : ℕ) → at forks v ≤ 1) where
+  pub weight-low : Weights (weightTable n u on forks)
   unfolding weightTable
-  weight-low = record { low = held-low n 198 (λ v. t * at on v + at pass v) few (λ v _ _. omega (arith, times {a = t} {b = at on v} {c = t} {d = 1} (omega arith) (one v), mul-one t, low v)) }
+  weight-low = record {
+    low = held-low n 198 (λ v. u .transfer * at on v + u .loss * at forks v) few
+        (λ v _ _. omega (arith, product-fits (u .transfer) (at on v) (cheap .transfer) (on-one v), product-fits (u .loss) (at forks v) (cheap .loss) (fork-one v)));
+  }
 
-  pub weight-at : (v : ℕ) → 1 ≤ v → v ≤ n → at (weightTable n t on pass) v ≡ t * at on v + at pass v
+  pub weight-at : (v : ℕ) → 1 ≤ v → v ≤ n → at (weightTable n u on forks) v ≡ u .transfer * at on v + u .loss * at forks v
   unfolding weightTable
-  weight-at v a b = held-in n (λ v. t * at on v + at pass v) few v a b
+  weight-at v a b = held-in n (λ v. u .transfer * at on v + u .loss * at forks v) few v a b
 
 module _ (n : ℕ) (up on height : List ℕ) (T : Switched n up on height) (u : UnitCosts) (cheap : Cheap u) where
   abbrev N : Network
@@ -91,17 +85,15 @@ module _ (n : ℕ) (up on height : List ℕ) (T : Switched n up on height) (u : 
   abbrev F : List ℕ
   F = forksTable n up
 
-  abbrev P : List ℕ
-  P = passTable n (u .loss) F
-
   abbrev W : List ℕ
-  W = weightTable n (u .transfer) on P
+  W = weightTable n u on F
 
-  pub pass-small : (v : ℕ) → at P v ≤ u .loss
-  pass-small = pass-low n (u .loss) F (T .few) (cheap .loss) (fork-low n up on height T)
+  -- what a node would charge that is not passed
+  pub pass-small : (v : ℕ) → u .loss * at F v ≤ u .loss
+  pass-small v = omega (arith, times {a = u .loss} {b = at F v} {c = u .loss} {d = 1} (omega arith) (fork-low n up on height T v), mul-one (u .loss))
 
   pub weights-small : Weights W
-  weights-small = weight-low n (u .transfer) on P (T .few) (cheap .transfer) (on-low n up on height T) (λ v. omega (arith, pass-small v, cheap .loss))
+  weights-small = weight-low n u on F (T .few) cheap (on-low n up on height T) (fork-low n up on height T)
 
   module _ (b x : ℕ) (B : Below n up on height b x) where
     -- the weights of a way are its transfers and the losses of its nodes
@@ -125,8 +117,7 @@ module _ (n : ℕ) (up on height : List ℕ) (T : Switched n up on height) (u : 
 
         split : (v : ℕ) → 1 ≤ v → v ≤ n → marks (at W) v ≡ u .transfer * marks (at on) v + u .loss * marks (at F) v
         split v l h = byBool (onWay N taken b x v)
-            (λ t. rw t (weight-at n (u .transfer) on P (T .few) (cheap .transfer) (on-low n up on height T) (λ k. omega (arith, pass-small k, cheap .loss)) v l h
-            ∙ ap (λ (k : ℕ). u .transfer * at on v + k) (pass-at n (u .loss) F (T .few) (cheap .loss) (fork-low n up on height T) v l h)))
+            (λ t. rw t (weight-at n u on F (T .few) cheap (on-low n up on height T) (fork-low n up on height T) v l h))
             (λ t. rw t (omega (arith, mul-zero (u .transfer), mul-zero (u .loss))))
 
     -- a child that sits where its parent gene sits is charged nothing, and has no way
@@ -140,7 +131,7 @@ module _ (n : ℕ) (up on height : List ℕ) (T : Switched n up on height) (u : 
         no-loss false = refl
 
     -- else it is charged its weights, without its own place's loss and with that of leaving a duplication
-    way-else : (x ≡ b → ⊥) → (e : ℕ) → wayCharge n up on height u e b x + at P x ≡ wayOf n up on height W b x + u .loss * tally (same e 2)
+    way-else : (x ≡ b → ⊥) → (e : ℕ) → wayCharge n up on height u e b x + u .loss * at F x ≡ wayOf n up on height W b x + u .loss * tally (same e 2)
     unfolding wayCharge lossesFrom betweenOf leavesFrom switchedOf
     way-else d e = rw (not-same d, yes (same e 2)) (omega (
       arith,
@@ -148,7 +139,6 @@ module _ (n : ℕ) (up on height : List ℕ) (T : Switched n up on height) (u : 
       ap (λ (k : ℕ). u .loss * k) (way-go n up on height F T b x (B .over) d),
       mul-add (u .loss) (at F x) (wayOf n up on height F b (at up x)),
       mul-add (u .loss) (wayOf n up on height F b (at up x)) (tally (same e 2)),
-      pass-at n (u .loss) F (T .few) (cheap .loss) (fork-low n up on height T) x (B .lower .low) (B .lower .high),
     ))
       where
         yes : (a : Bool) → tally (a && not false) ≡ tally a
@@ -156,7 +146,7 @@ module _ (n : ℕ) (up on height : List ℕ) (T : Switched n up on height) (u : 
         yes false = refl
 
   module _ (b x y : ℕ) (A : Below n up on height b x) (B : Below n up on height b y) (r : ℕ) (er : r ≡ wayOf n up on height W b x + wayOf n up on height W b y) where
-    pub pair-skipped : Skipped b x y (at P x) (at P y) r
+    pub pair-skipped : Skipped b x y (u .loss * at F x) (u .loss * at F y) r
     pair-skipped = record {
       both = λ dx dy. omega (arith, er, way-else b x A dx 1, way-else b y B dy 1, ap (λ (k : ℕ). u .loss * k) one-not-two, mul-zero (u .loss));
     }
@@ -165,7 +155,7 @@ module _ (n : ℕ) (up on height : List ℕ) (T : Switched n up on height) (u : 
         one-not-two = rw (not-same {m = 1} {n = 2} (λ e. omega arith))
 
     -- the charge by the weight is the charge by the ways
-    pub pair-charged : pairBy (u .duplication) (u .loss) b x y (at P x) (at P y) r ≡ pairCharge n up on height u b x y
+    pub pair-charged : pairBy (u .duplication) (u .loss) b x y (u .loss * at F x) (u .loss * at F y) r ≡ pairCharge n up on height u b x y
     unfolding pairBy pairCharge childHere eventFrom
     pair-charged = byEq x b
         (λ ex. byEq y b
@@ -204,26 +194,28 @@ module _ (n : ℕ) (up on height : List ℕ) (T : Switched n up on height) (u : 
     pub pair-right-in : y ≤ 127
     pair-right-in = below-lower n up on height T (lca Z taken x y) y pair-right-below
 
-    module _ (p w : List ℕ) (ep : p ≡ passTable n (u .loss) (forksTable n up)) (ew : w ≡ weightTable n (u .transfer) on p) where
+    module _ (f w : List ℕ) (ef : f ≡ forksTable n up) (ew : w ≡ weightTable n u on f) where
       pub pair-weights : Weights w
-      pair-weights = rw (ew, ep) (weights-small n up on height T u cheap)
+      pair-weights = rw (ew, ef) (weights-small n up on height T u cheap)
 
-      pub pair-pass : (v : ℕ) → at p v ≤ u .loss
-      pair-pass v = rw ep (pass-small n up on height T u cheap v)
+      pub pair-fork : (v : ℕ) → at f v ≤ 1
+      pair-fork v = rw ef (fork-low n up on height T v)
+
+      pub pair-pass : (v : ℕ) → u .loss * at f v ≤ u .loss
+      pair-pass v = rw ef (pass-small n up on height T u cheap v)
 
       module _ (node cost : ℕ) (M : Meeting n up on height w x y node cost) where
-        weighed : cost ≡ wayOf n up on height (weightTable n (u .transfer) on (passTable n (u .loss) (forksTable n up))) (lca Z taken x y) x
-            + wayOf n up on height (weightTable n (u .transfer) on (passTable n (u .loss) (forksTable n up))) (lca Z taken x y) y
-        weighed = rw (ew, ep) at (M .weighs)
+        weighed : cost ≡ wayOf n up on height (weightTable n u on (forksTable n up)) (lca Z taken x y) x + wayOf n up on height (weightTable n u on (forksTable n up)) (lca Z taken x y) y
+        weighed = rw (ew, ef) at (M .weighs)
 
-        pub pair-skips : Skipped node x y (at p x) (at p y) cost
-        pair-skips = rw (M .meets, ep) (pair-skipped n up on height T u cheap (lca Z taken x y) x y pair-left-below pair-right-below cost weighed)
+        pub pair-skips : Skipped node x y (u .loss * at f x) (u .loss * at f y) cost
+        pair-skips = rw (M .meets, ef) (pair-skipped n up on height T u cheap (lca Z taken x y) x y pair-left-below pair-right-below cost weighed)
 
-        pub charged-pair : (leaf : List ℕ) (r : ℕ) → r ≡ pairBy (u .duplication) (u .loss) node x y (at p x) (at p y) cost → ChargedHere n up on height u left right leaf table g node r
+        pub charged-pair : (leaf : List ℕ) (r : ℕ) → r ≡ pairBy (u .duplication) (u .loss) node x y (u .loss * at f x) (u .loss * at f y) cost → ChargedHere n up on height u left right leaf table g node r
         unfolding placeAt chargeAt
         charged-pair leaf r e =
-            let q : pairBy (u .duplication) (u .loss) node x y (at p x) (at p y) cost ≡ pairCharge n up on height u (lca Z taken x y) x y =
-            rw (M .meets, ep) (pair-charged n up on height T u cheap (lca Z taken x y) x y pair-left-below pair-right-below cost weighed) in
+            let q : pairBy (u .duplication) (u .loss) node x y (u .loss * at f x) (u .loss * at f y) cost ≡ pairCharge n up on height u (lca Z taken x y) x y =
+            rw (M .meets, ef) (pair-charged n up on height T u cheap (lca Z taken x y) x y pair-left-below pair-right-below cost weighed) in
             record { sits = rw (not-same d, ← ea, ← ex, ← eb, ← ey) (M .meets); charged = rw (not-same d, ← ea, ← ex, ← eb, ← ey) (e ∙ q) }
 
 -- the charges of the genes above g, as parts of the cost

@@ -15,13 +15,9 @@ use Rattle.mapping.specs.Switched.{switchedOf, taken, Below, forksTable}
 use Rattle.mapping.specs.Genes.{Kin, childHere, eventFrom, placeAt, wayOf, lossesFrom}
 use Rattle.mapping.specs.declared.UnitCosts.{UnitCosts}
 
--- the loss that a node charges a gene that passes it, where it has two on arcs
-unfoldable pub passTable : ℕ → (loss : ℕ) → (forks : List ℕ) → List ℕ
-passTable n loss forks = filled n zeros (λ v. loss * at forks v)
-
--- and the transfer, where the node is reached along a secondary arc
-unfoldable pub weightTable : ℕ → (transfer : ℕ) → (on pass : List ℕ) → List ℕ
-weightTable n transfer on pass = filled n zeros (λ v. transfer * at on v + at pass v)
+-- what a node charges a gene that passes it: the transfer, where it is reached along a secondary arc, and a loss, where it has two on arcs
+unfoldable pub weightTable : ℕ → UnitCosts → (on forks : List ℕ) → List ℕ
+weightTable n u on forks = filled n zeros (λ v. u .transfer * at on v + u .loss * at forks v)
 
 -- a weight is at most a transfer and a loss
 pub record Weights (weight : List ℕ) : Type 0 where

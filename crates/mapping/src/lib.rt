@@ -12,7 +12,7 @@ ghost use Rattle.mapping.specs.Settings.{bitOf, markFrom, markTable, Num
 ghost use Rattle.mapping.specs.Genes.{genesOf, Family, Kin, Ready, Coming, placeAt, childHere, eventFrom, eventAt, leavesFrom, wayOf, betweenOf, lossesFrom, transfersAt, lossesAt, placeTable, eventTable, transferTable, lossTable};
 ghost use Rattle.mapping.specs.Score.{Cheap, Room, chargedBy, costsOf, scoreOf};
 ghost use Rattle.mapping.specs.Evaluated.{Evaluated};
-ghost use Rattle.mapping.specs.Charges.{passTable, weightTable, Weights, Meeting, Paired, ChargedHere, pairBy, Skipped};
+ghost use Rattle.mapping.specs.Charges.{weightTable, Weights, Meeting, Paired, ChargedHere, pairBy, Skipped};
 ghost use Rattle.reconciliation.specs.Mapping.{lcaCost};
 
 fn wide(x: u32) -> usize
@@ -634,31 +634,16 @@ pub fn evaluate(
     }
 }
 
-// The loss that each node charges a gene that passes it: nodes with two on arcs charge one.
-fn passing(n: usize, forks: &[u32; 128], loss: u32) -> [u32; 128]
-    requires { ⌜ (n ≤ 127) × (loss ≤ 99) × ((v : ℕ) → at (now forks) v ≤ 1) ⌝ }
-    ensures { λ r. ⌜ r ≡ passTable n loss (now (forks .entry)) ⌝ }
+// What each node charges a gene that passes it: the transfer by which it is reached, and a loss where it has two on arcs.
+fn weights(n: usize, on: &[u32; 128], forks: &[u32; 128], u: UnitCosts) -> [u32; 128]
+    requires { ⌜ (n ≤ 127) × Cheap u × ((v : ℕ) → at (now on) v ≤ 1) × ((v : ℕ) → at (now forks) v ≤ 1) ⌝ }
+    ensures { λ r. ⌜ r ≡ weightTable n u (now (on .entry)) (now (forks .entry)) ⌝ }
 {
     let mut out = [0u32; 128];
     let mut v: usize = 0;
     while v < n {
         let w = v + 1;
-        out[w] = loss * forks[w];
-        v = w;
-    }
-    out
-}
-
-// The same with the transfer by which the node is reached.
-fn weights(n: usize, on: &[u32; 128], pass: &[u32; 128], transfer: u32) -> [u32; 128]
-    requires { ⌜ (n ≤ 127) × (transfer ≤ 99) × ((v : ℕ) → at (now on) v ≤ 1) × ((v : ℕ) → at (now pass) v ≤ 99) ⌝ }
-    ensures { λ r. ⌜ r ≡ weightTable n transfer (now (on .entry)) (now (pass .entry)) ⌝ }
-{
-    let mut out = [0u32; 128];
-    let mut v: usize = 0;
-    while v < n {
-        let w = v + 1;
-        out[w] = transfer * on[w] + pass[w];
+        out[w] = u.transfer * on[w] + u.loss * forks[w];
         v = w;
     }
     out
@@ -735,14 +720,14 @@ fn place_and_charge(
     left: &[u32; 128],
     right: &[u32; 128],
     leaf: &[u32; 128],
-    pass: &[u32; 128],
+    forks: &[u32; 128],
     weight: &[u32; 128],
     u: UnitCosts,
     place: &[u32; 128],
     g: usize,
 ) -> Met
     requires { ⌜ Switched n (now up) (now on) (now height) ⌝ }
-    requires { ⌜ Cheap u × (now pass ≡ passTable n (u .loss) (forksTable n (now up))) × (now weight ≡ weightTable n (u .transfer) (now on) (now pass)) ⌝ }
+    requires { ⌜ Cheap u × (now forks ≡ forksTable n (now up)) × (now weight ≡ weightTable n u (now on) (now forks)) ⌝ }
     requires { ⌜ (g ≤ 127) × Paired n (now up) (now on) (now height) (now left) (now right) (now place) g ⌝ }
     ensures { λ r. ⌜ ChargedHere n (now (up .entry)) (now (on .entry)) (now (height .entry)) u (now (left .entry)) (now (right .entry)) (now (leaf .entry)) (now (place .entry)) g (r .node) (r .cost) ⌝ }
 {
@@ -756,7 +741,9 @@ fn place_and_charge(
     let y = wide(place[wide(right[g])]);
     let met = meet(n, up, on, height, weight, x, y);
     let b = met.node;
-    let charge = pair_charge(u.duplication, u.loss, b, x, y, pass[x], pass[y], met.cost);
+    let px = u.loss * forks[x];
+    let py = u.loss * forks[y];
+    let charge = pair_charge(u.duplication, u.loss, b, x, y, px, py, met.cost);
     Met {
         node: b,
         cost: charge,
@@ -782,8 +769,7 @@ pub fn cost(
     ensures { λ r. ⌜ r ≡ lcaCost (switchedOf n (now (up .entry)) (now (on .entry)) (now (height .entry))) (genesOf m (now (left .entry)) (now (right .entry)) (now (leaf .entry)) (now (mother .entry))) (costsOf u) taken ⌝ }
 {
     let fork = forks(n, up);
-    let pass = passing(n, &fork, u.loss);
-    let weight = weights(n, on, &pass, u.transfer);
+    let weight = weights(n, on, &fork, u);
     let mut place = [0u32; 128];
     let mut r: u32 = 0;
     let mut g = m;
@@ -796,7 +782,7 @@ pub fn cost(
             left,
             right,
             leaf,
-            &pass,
+            &fork,
             &weight,
             u,
             &place,

@@ -3,7 +3,7 @@
 -- Assumes nothing.
 use native.Mathlib.Omega.{arith}
 use Rattle.mapping.proofs.Placing.{kin-left, kin-right}
-use Rattle.mapping.proofs.Charges.{charged-leaf, pair-left-below, pair-right-below, pair-left-in, pair-right-in, pair-weights, pair-pass, pair-skips, charged-pair}
+use Rattle.mapping.proofs.Charges.{product-fits, charged-leaf, pair-left-below, pair-right-below, pair-left-in, pair-right-in, pair-weights, pair-fork, pair-pass, pair-skips, charged-pair}
 use borrow.Author.Needs.{needs}
 use Rattle.mapping.proofs.place_and_charge.Statement.{statement}
 use Rattle.mapping.proofs.place_and_charge.Tie as tie
@@ -29,7 +29,11 @@ wide-requires : tie.Need-wide-requires
 wide-requires c κs = search needs
 
 returns : tie.Need-returns
-returns c = let s = c .before .before .before .before .pre in let d = c .before .before .if1 .taken in let e = c .wide .ensures in charged-leaf _ _ _ _ (s .0) _ (s .1 .0 .0) _ _ _ _ _ _ d e
+returns c =
+    let s = c .before .before .before .before .pre in
+    let d = c .before .before .if1 .taken in
+    let e = c .wide .ensures in
+    charged-leaf _ _ _ _ (s .0) _ (s .1 .0 .0) _ _ _ _ _ _ d e
 
 mul-wide-2 : tie.Need-mul-wide-2
 mul-wide-2 c = search needs
@@ -41,10 +45,18 @@ wide-requires-2 : tie.Need-wide-requires-2
 wide-requires-2 c κs = search needs
 
 mul-wide-3 : tie.Need-mul-wide-3
-mul-wide-3 c = let s = c .before .before .before .before .pre in let d = c .before .before .if1 .left in let a = c .wide2 .ensures in omega (arith, kin-left _ _ _ (s .1 .1 .1 .kin) d _ a)
+mul-wide-3 c =
+    let s = c .before .before .before .before .pre in
+    let d = c .before .before .if1 .left in
+    let a = c .wide2 .ensures in
+    omega (arith, kin-left _ _ _ (s .1 .1 .1 .kin) d _ a)
 
 element-copy-out-wide-3 : tie.Need-element-copy-out-wide-3
-element-copy-out-wide-3 c = let s = c .before .before .before .before .pre in let d = c .before .before .if1 .left in let a = c .wide2 .ensures in omega (arith, kin-left _ _ _ (s .1 .1 .1 .kin) d _ a)
+element-copy-out-wide-3 c =
+    let s = c .before .before .before .before .pre in
+    let d = c .before .before .if1 .left in
+    let a = c .wide2 .ensures in
+    omega (arith, kin-left _ _ _ (s .1 .1 .1 .kin) d _ a)
 
 wide-requires-3 : tie.Need-wide-requires-3
 wide-requires-3 c κs = search needs
@@ -59,34 +71,114 @@ wide-requires-4 : tie.Need-wide-requires-4
 wide-requires-4 c κs = search needs
 
 mul-wide-5 : tie.Need-mul-wide-5
-mul-wide-5 c = let s = c .before .before .before .before .before .before .before .before .pre in let d = c .before .before .before .before .before .before .if1 .left in let b = c .wide4 .ensures in omega (arith, kin-right _ _ _ (s .1 .1 .1 .kin) d _ b)
+mul-wide-5 c =
+    let s = c .before .before .before .before .before .before .before .before .pre in
+    let d = c .before .before .before .before .before .before .if1 .left in
+    let b = c .wide4 .ensures in
+    omega (arith, kin-right _ _ _ (s .1 .1 .1 .kin) d _ b)
 
 element-copy-out-wide-5 : tie.Need-element-copy-out-wide-5
-element-copy-out-wide-5 c = let s = c .before .before .before .before .before .before .before .before .pre in let d = c .before .before .before .before .before .before .if1 .left in let b = c .wide4 .ensures in omega (arith, kin-right _ _ _ (s .1 .1 .1 .kin) d _ b)
+element-copy-out-wide-5 c =
+    let s = c .before .before .before .before .before .before .before .before .pre in
+    let d = c .before .before .before .before .before .before .if1 .left in
+    let b = c .wide4 .ensures in
+    omega (arith, kin-right _ _ _ (s .1 .1 .1 .kin) d _ b)
 
 wide-requires-5 : tie.Need-wide-requires-5
 wide-requires-5 c κs = search needs
 
 meet-requires : tie.Need-meet-requires
-meet-requires c κs = let s = c .before .before .before .before .before .before .before .before .before .before .pre in let d = c .before .before .before .before .before .before .before .before .if1 .left in let a = c .before .before .before .before .before .before .wide2 .ensures in let x = c .before .before .before .before .wide3 .ensures in let b = c .before .before .wide4 .ensures in let y = c .wide5 .ensures in (s .0, (pair-weights _ _ _ _ (s .0) _ (s .1 .0 .0) _ _ _ _ (s .1 .1 .1) d _ _ _ _ a x b y _ _ (s .1 .0 .1) (s .1 .0 .2), pair-left-below _ _ _ _ (s .0) _ (s .1 .0 .0) _ _ _ _ (s .1 .1 .1) d _ _ _ _ a x b y, pair-right-below _ _ _ _ (s .0) _ (s .1 .0 .0) _ _ _ _ (s .1 .1 .1) d _ _ _ _ a x b y))
+meet-requires c κs =
+    let s = c .before .before .before .before .before .before .before .before .before .before .pre in
+    let d = c .before .before .before .before .before .before .before .before .if1 .left in
+    let a = c .before .before .before .before .before .before .wide2 .ensures in
+    let x = c .before .before .before .before .wide3 .ensures in
+    let b = c .before .before .wide4 .ensures in
+    let y = c .wide5 .ensures in
+    (s .0, (pair-weights _ _ _ _ (s .0) _ (s .1 .0 .0) _ _ _ _ (s .1 .1 .1) d _ _ _ _ a x b y _ _ (s .1 .0 .1) (s .1 .0 .2), pair-left-below _ _ _ _ (s .0) _ (s .1 .0 .0) _ _ _ _ (s .1 .1 .1) d _ _ _ _ a x b y, pair-right-below _ _ _ _ (s .0) _ (s .1 .0 .0) _ _ _ _ (s .1 .1 .1) d _ _ _ _ a x b y))
 
-mul-pair-charge : tie.Need-mul-pair-charge
-mul-pair-charge c = let s = c .before .before .before .before .before .before .before .before .before .before .before .pre in let d = c .before .before .before .before .before .before .before .before .before .if1 .left in let a = c .before .before .before .before .before .before .before .wide2 .ensures in let x = c .before .before .before .before .before .wide3 .ensures in let b = c .before .before .before .wide4 .ensures in let y = c .before .wide5 .ensures in omega (arith, pair-left-in _ _ _ _ (s .0) _ (s .1 .0 .0) _ _ _ _ (s .1 .1 .1) d _ _ _ _ a x b y)
+mul-px : tie.Need-mul-px
+mul-px c =
+    let s = c .before .before .before .before .before .before .before .before .before .before .before .pre in
+    let d = c .before .before .before .before .before .before .before .before .before .if1 .left in
+    let a = c .before .before .before .before .before .before .before .wide2 .ensures in
+    let x = c .before .before .before .before .before .wide3 .ensures in
+    let b = c .before .before .before .wide4 .ensures in
+    let y = c .before .wide5 .ensures in
+    omega (arith, pair-left-in _ _ _ _ (s .0) _ (s .1 .0 .0) _ _ _ _ (s .1 .1 .1) d _ _ _ _ a x b y)
 
-element-copy-out-pair-charge : tie.Need-element-copy-out-pair-charge
-element-copy-out-pair-charge c = let s = c .before .before .before .before .before .before .before .before .before .before .before .pre in let d = c .before .before .before .before .before .before .before .before .before .if1 .left in let a = c .before .before .before .before .before .before .before .wide2 .ensures in let x = c .before .before .before .before .before .wide3 .ensures in let b = c .before .before .before .wide4 .ensures in let y = c .before .wide5 .ensures in omega (arith, pair-left-in _ _ _ _ (s .0) _ (s .1 .0 .0) _ _ _ _ (s .1 .1 .1) d _ _ _ _ a x b y)
+element-copy-out-px : tie.Need-element-copy-out-px
+element-copy-out-px c =
+    let s = c .before .before .before .before .before .before .before .before .before .before .before .pre in
+    let d = c .before .before .before .before .before .before .before .before .before .if1 .left in
+    let a = c .before .before .before .before .before .before .before .wide2 .ensures in
+    let x = c .before .before .before .before .before .wide3 .ensures in
+    let b = c .before .before .before .wide4 .ensures in
+    let y = c .before .wide5 .ensures in
+    omega (arith, pair-left-in _ _ _ _ (s .0) _ (s .1 .0 .0) _ _ _ _ (s .1 .1 .1) d _ _ _ _ a x b y)
 
-mul-pair-charge-2 : tie.Need-mul-pair-charge-2
-mul-pair-charge-2 c = let s = c .before .before .before .before .before .before .before .before .before .before .before .before .pre in let d = c .before .before .before .before .before .before .before .before .before .before .if1 .left in let a = c .before .before .before .before .before .before .before .before .wide2 .ensures in let x = c .before .before .before .before .before .before .wide3 .ensures in let b = c .before .before .before .before .wide4 .ensures in let y = c .before .before .wide5 .ensures in omega (arith, pair-right-in _ _ _ _ (s .0) _ (s .1 .0 .0) _ _ _ _ (s .1 .1 .1) d _ _ _ _ a x b y)
+mul-px-2 : tie.Need-mul-px-2
+mul-px-2 c =
+    let s = c .before .before .before .before .before .before .before .before .before .before .before .before .before .pre in
+    let d = c .before .before .before .before .before .before .before .before .before .before .before .if1 .left in
+    let a = c .before .before .before .before .before .before .before .before .before .wide2 .ensures in
+    let x = c .before .before .before .before .before .before .before .wide3 .ensures in
+    let b = c .before .before .before .before .before .wide4 .ensures in
+    let y = c .before .before .before .wide5 .ensures in
+    omega (arith, product-fits _ _ (s .1 .0 .0 .loss) (pair-fork _ _ _ _ (s .0) _ (s .1 .0 .0) _ _ _ _ (s .1 .1 .1) d _ _ _ _ a x b y _ _ (s .1 .0 .1) (s .1 .0 .2) (c .before .before .before .before .before .before .before .wide3 .result)))
 
-element-copy-out-pair-charge-2 : tie.Need-element-copy-out-pair-charge-2
-element-copy-out-pair-charge-2 c = let s = c .before .before .before .before .before .before .before .before .before .before .before .before .pre in let d = c .before .before .before .before .before .before .before .before .before .before .if1 .left in let a = c .before .before .before .before .before .before .before .before .wide2 .ensures in let x = c .before .before .before .before .before .before .wide3 .ensures in let b = c .before .before .before .before .wide4 .ensures in let y = c .before .before .wide5 .ensures in omega (arith, pair-right-in _ _ _ _ (s .0) _ (s .1 .0 .0) _ _ _ _ (s .1 .1 .1) d _ _ _ _ a x b y)
+mul-py : tie.Need-mul-py
+mul-py c =
+    let s = c .before .before .before .before .before .before .before .before .before .before .before .before .before .pre in
+    let d = c .before .before .before .before .before .before .before .before .before .before .before .if1 .left in
+    let a = c .before .before .before .before .before .before .before .before .before .wide2 .ensures in
+    let x = c .before .before .before .before .before .before .before .wide3 .ensures in
+    let b = c .before .before .before .before .before .wide4 .ensures in
+    let y = c .before .before .before .wide5 .ensures in
+    omega (arith, pair-right-in _ _ _ _ (s .0) _ (s .1 .0 .0) _ _ _ _ (s .1 .1 .1) d _ _ _ _ a x b y)
+
+element-copy-out-py : tie.Need-element-copy-out-py
+element-copy-out-py c =
+    let s = c .before .before .before .before .before .before .before .before .before .before .before .before .before .pre in
+    let d = c .before .before .before .before .before .before .before .before .before .before .before .if1 .left in
+    let a = c .before .before .before .before .before .before .before .before .before .wide2 .ensures in
+    let x = c .before .before .before .before .before .before .before .wide3 .ensures in
+    let b = c .before .before .before .before .before .wide4 .ensures in
+    let y = c .before .before .before .wide5 .ensures in
+    omega (arith, pair-right-in _ _ _ _ (s .0) _ (s .1 .0 .0) _ _ _ _ (s .1 .1 .1) d _ _ _ _ a x b y)
+
+mul-py-2 : tie.Need-mul-py-2
+mul-py-2 c =
+    let s = c .before .before .before .before .before .before .before .before .before .before .before .before .before .before .before .pre in
+    let d = c .before .before .before .before .before .before .before .before .before .before .before .before .before .if1 .left in
+    let a = c .before .before .before .before .before .before .before .before .before .before .before .wide2 .ensures in
+    let x = c .before .before .before .before .before .before .before .before .before .wide3 .ensures in
+    let b = c .before .before .before .before .before .before .before .wide4 .ensures in
+    let y = c .before .before .before .before .before .wide5 .ensures in
+    omega (arith, product-fits _ _ (s .1 .0 .0 .loss) (pair-fork _ _ _ _ (s .0) _ (s .1 .0 .0) _ _ _ _ (s .1 .1 .1) d _ _ _ _ a x b y _ _ (s .1 .0 .1) (s .1 .0 .2) (c .before .before .before .before .before .wide5 .result)))
 
 pair-charge-requires : tie.Need-pair-charge-requires
-pair-charge-requires c κs = let s = c .before .before .before .before .before .before .before .before .before .before .before .before .before .pre in let d = c .before .before .before .before .before .before .before .before .before .before .before .if1 .left in let a = c .before .before .before .before .before .before .before .before .before .wide2 .ensures in let x = c .before .before .before .before .before .before .before .wide3 .ensures in let b = c .before .before .before .before .before .wide4 .ensures in let y = c .before .before .before .wide5 .ensures in let q = c .before .before .meet .ensures in (s .1 .0 .0 .duplication, s .1 .0 .0 .loss, pair-pass _ _ _ _ (s .0) _ (s .1 .0 .0) _ _ _ _ (s .1 .1 .1) d _ _ _ _ a x b y _ _ (s .1 .0 .1) (s .1 .0 .2) _, pair-pass _ _ _ _ (s .0) _ (s .1 .0 .0) _ _ _ _ (s .1 .1 .1) d _ _ _ _ a x b y _ _ (s .1 .0 .1) (s .1 .0 .2) _, q .small, pair-skips _ _ _ _ (s .0) _ (s .1 .0 .0) _ _ _ _ (s .1 .1 .1) d _ _ _ _ a x b y _ _ (s .1 .0 .1) (s .1 .0 .2) _ _ q)
+pair-charge-requires c κs =
+    let s = c .before .before .before .before .before .before .before .before .before .before .before .before .before .before .before .pre in
+    let d = c .before .before .before .before .before .before .before .before .before .before .before .before .before .if1 .left in
+    let a = c .before .before .before .before .before .before .before .before .before .before .before .wide2 .ensures in
+    let x = c .before .before .before .before .before .before .before .before .before .wide3 .ensures in
+    let b = c .before .before .before .before .before .before .before .wide4 .ensures in
+    let y = c .before .before .before .before .before .wide5 .ensures in
+    let q = c .before .before .before .before .meet .ensures in
+    (s .1 .0 .0 .duplication, s .1 .0 .0 .loss, pair-pass _ _ _ _ (s .0) _ (s .1 .0 .0) _ _ _ _ (s .1 .1 .1) d _ _ _ _ a x b y _ _ (s .1 .0 .1) (s .1 .0 .2) _, pair-pass _ _ _ _ (s .0) _ (s .1 .0 .0) _ _ _ _ (s .1 .1 .1) d _ _ _ _ a x b y _ _ (s .1 .0 .1) (s .1 .0 .2) _, q .small, pair-skips _ _ _ _ (s .0) _ (s .1 .0 .0) _ _ _ _ (s .1 .1 .1) d _ _ _ _ a x b y _ _ (s .1 .0 .1) (s .1 .0 .2) _ _ q)
 
 returns-2 : tie.Need-returns-2
-returns-2 c = let s = c .before .before .before .before .before .before .before .before .before .before .before .before .before .before .pre in let d = c .before .before .before .before .before .before .before .before .before .before .before .before .if1 .left in let a = c .before .before .before .before .before .before .before .before .before .before .wide2 .ensures in let x = c .before .before .before .before .before .before .before .before .wide3 .ensures in let b = c .before .before .before .before .before .before .wide4 .ensures in let y = c .before .before .before .before .wide5 .ensures in let q = c .before .before .before .meet .ensures in let e = c .pair-charge .ensures in charged-pair _ _ _ _ (s .0) _ (s .1 .0 .0) _ _ _ _ (s .1 .1 .1) d _ _ _ _ a x b y _ _ (s .1 .0 .1) (s .1 .0 .2) _ _ q _ _ e
+returns-2 c =
+    let s = c .before .before .before .before .before .before .before .before .before .before .before .before .before .before .before .before .pre in
+    let d = c .before .before .before .before .before .before .before .before .before .before .before .before .before .before .if1 .left in
+    let a = c .before .before .before .before .before .before .before .before .before .before .before .before .wide2 .ensures in
+    let x = c .before .before .before .before .before .before .before .before .before .before .wide3 .ensures in
+    let b = c .before .before .before .before .before .before .before .before .wide4 .ensures in
+    let y = c .before .before .before .before .before .before .wide5 .ensures in
+    let q = c .before .before .before .before .before .meet .ensures in
+    let e = c .pair-charge .ensures in
+    charged-pair _ _ _ _ (s .0) _ (s .1 .0 .0) _ _ _ _ (s .1 .1 .1) d _ _ _ _ a x b y _ _ (s .1 .0 .1) (s .1 .0 .2) _ _ q _ _ e
 
 pub place-and-charge-spec : {M : Type 1} → statement M
 place-and-charge-spec =
@@ -111,9 +203,11 @@ place-and-charge-spec =
     element-copy-out-wide-5
     wide-requires-5
     meet-requires
-    mul-pair-charge
-    element-copy-out-pair-charge
-    mul-pair-charge-2
-    element-copy-out-pair-charge-2
+    mul-px
+    element-copy-out-px
+    mul-px-2
+    mul-py
+    element-copy-out-py
+    mul-py-2
     pair-charge-requires
     returns-2)
