@@ -40,6 +40,9 @@ use Rattle.mapping.proofs.Placing.{PlacedFrom, kin-held}
 pub product-fits : (a b : ℕ) → a ≤ 99 → b ≤ 1 → a * b ≤ 99
 product-fits a b la lb = omega (arith, times {a = a} {b = b} {c = 99} {d = 1} la lb)
 
+pub marked-low : (a r : ℕ) → r ≡ tally (same a 2) → r ≤ 1
+marked-low a r e = omega (arith, tally-le (same a 2))
+
 module _ (d l b x y px py r : ℕ) where
   pub pair-both : x ≡ b → y ≡ b → d ≡ pairBy d l b x y px py r
   unfolding pairBy
@@ -187,6 +190,14 @@ module _ (n : ℕ) (up on height : List ℕ) (T : Switched n up on height) (u : 
 
     pub pair-right-below : Below n up on height (lca Z taken x y) y
     pair-right-below = rw (ex, ea, ey, eb) (R .right-below d)
+
+    pub pair-left-low : 1 ≤ x
+    unfolding switchedOf
+    pair-left-low = pair-left-below .lower .low
+
+    pub pair-right-low : 1 ≤ y
+    unfolding switchedOf
+    pair-right-low = pair-right-below .lower .low
 
     pub pair-left-in : x ≤ 127
     pair-left-in = below-lower n up on height T (lca Z taken x y) x pair-left-below

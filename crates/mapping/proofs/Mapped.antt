@@ -39,6 +39,15 @@ pub held-low : (k b : ℕ) (f : ℕ → ℕ) → k ≤ 127 → ((v : ℕ) → 1 
 held-low k b f few h v = byEq v 0 (λ e. rw e (omega (arith, filled-zero k zeros f, zeros-at 0)))
     (λ d. byLess k v (λ l. omega (arith, filled-out k zeros f v l, zeros-at v)) (λ l. omega (arith, held-in k f few v (omega arith) l, h v (omega arith) l)))
 
+-- a node's mark, by how many on arcs it has
+pub fork-here : (arcs : List ℕ) (v r : ℕ) → 1 ≤ v → v ≤ 127 → r ≡ tally (same (at arcs v) 2) → r ≡ at (forkTable arcs) v
+unfolding forkTable forkMark
+fork-here arcs v r l u q = q ∙ sym (held-in 127 (forkMark arcs) (omega arith) v l u)
+
+pub forks-told : (n : ℕ) (up arcs : List ℕ) → arcs ≡ leavingTable n up ones → forkTable arcs ≡ forksTable n up
+unfolding forksTable
+forks-told n up arcs e = rw e
+
 -- the steps of the functions that read the tables
 module _ (left right table sent : List ℕ) (g : ℕ) where
   pub event-none : at left g ≡ 0 → 0 ≡ eventAt left right table sent g

@@ -7,7 +7,7 @@ ghost use Prim.Native.Nat.{ℕ, _+_, _-_, _≤_, _<_};
 ghost use Rattle.finite.specs.Tests.{same, tally};
 ghost use Rattle.finite.specs.Tables.{at};
 ghost use Rattle.topology.specs.Switchings.{lca};
-ghost use Rattle.mapping.specs.Switched.{switchedOf, taken, Switched, Below, leavingTable, forkTable, forksTable};
+ghost use Rattle.mapping.specs.Switched.{switchedOf, taken, Switched, Below, leavingTable, forkTable, ones, forksTable};
 ghost use Rattle.mapping.specs.Settings.{bitOf, markFrom, markTable, Numbered, upFrom, upTable};
 ghost use Rattle.mapping.specs.Genes.{genesOf, Family, Kin, Ready, Coming, placeAt, childHere, eventFrom, eventAt, leavesFrom, wayOf, betweenOf, lossesFrom, transfersAt, lossesAt, placeTable, eventTable, transferTable, lossTable};
 ghost use Rattle.mapping.specs.Score.{Cheap, Room, chargedBy, costsOf, scoreOf};
@@ -136,13 +136,21 @@ pub fn fork_marks(arcs: &[u32; 128]) -> [u32; 128]
     out
 }
 
+// How many on arcs leave each node.
+fn arcs_on(n: usize, up: &[u32; 128]) -> [u32; 128]
+    requires { ⌜ (n ≤ 127) × ((v : ℕ) → at (now up) v ≤ 127) ⌝ }
+    ensures { λ r. ⌜ r ≡ leavingTable n (now (up .entry)) ones ⌝ }
+{
+    let one = [1u32; 128];
+    leaving(n, up, &one)
+}
+
 // The nodes with two on arcs.
 pub fn forks(n: usize, up: &[u32; 128]) -> [u32; 128]
     requires { ⌜ (n ≤ 127) × ((v : ℕ) → at (now up) v ≤ 127) ⌝ }
     ensures { λ r. ⌜ r ≡ forksTable n (now (up .entry)) ⌝ }
 {
-    let ones = [1u32; 128];
-    let arcs = leaving(n, up, &ones);
+    let arcs = arcs_on(n, up);
     fork_marks(&arcs)
 }
 
@@ -635,15 +643,15 @@ pub fn evaluate(
 }
 
 // What each node charges a gene that passes it: the transfer by which it is reached, and a loss where it has two on arcs.
-fn weights(n: usize, on: &[u32; 128], forks: &[u32; 128], u: UnitCosts) -> [u32; 128]
-    requires { ⌜ (n ≤ 127) × Cheap u × ((v : ℕ) → at (now on) v ≤ 1) × ((v : ℕ) → at (now forks) v ≤ 1) ⌝ }
-    ensures { λ r. ⌜ r ≡ weightTable n u (now (on .entry)) (now (forks .entry)) ⌝ }
+fn weights(n: usize, on: &[u32; 128], arcs: &[u32; 128], u: UnitCosts) -> [u32; 128]
+    requires { ⌜ (n ≤ 127) × Cheap u × ((v : ℕ) → at (now on) v ≤ 1) ⌝ }
+    ensures { λ r. ⌜ r ≡ weightTable n u (now (on .entry)) (forkTable (now (arcs .entry))) ⌝ }
 {
     let mut out = [0u32; 128];
     let mut v: usize = 0;
     while v < n {
         let w = v + 1;
-        out[w] = u.transfer * on[w] + u.loss * forks[w];
+        out[w] = u.transfer * on[w] + u.loss * fork_mark(arcs[w]);
         v = w;
     }
     out
@@ -720,14 +728,14 @@ fn place_and_charge(
     left: &[u32; 128],
     right: &[u32; 128],
     leaf: &[u32; 128],
-    forks: &[u32; 128],
+    arcs: &[u32; 128],
     weight: &[u32; 128],
     u: UnitCosts,
     place: &[u32; 128],
     g: usize,
 ) -> Met
     requires { ⌜ Switched n (now up) (now on) (now height) ⌝ }
-    requires { ⌜ Cheap u × (now forks ≡ forksTable n (now up)) × (now weight ≡ weightTable n u (now on) (now forks)) ⌝ }
+    requires { ⌜ Cheap u × (now arcs ≡ leavingTable n (now up) ones) × (now weight ≡ weightTable n u (now on) (forkTable (now arcs))) ⌝ }
     requires { ⌜ (g ≤ 127) × Paired n (now up) (now on) (now height) (now left) (now right) (now place) g ⌝ }
     ensures { λ r. ⌜ ChargedHere n (now (up .entry)) (now (on .entry)) (now (height .entry)) u (now (left .entry)) (now (right .entry)) (now (leaf .entry)) (now (place .entry)) g (r .node) (r .cost) ⌝ }
 {
@@ -741,8 +749,8 @@ fn place_and_charge(
     let y = wide(place[wide(right[g])]);
     let met = meet(n, up, on, height, weight, x, y);
     let b = met.node;
-    let px = u.loss * forks[x];
-    let py = u.loss * forks[y];
+    let px = u.loss * fork_mark(arcs[x]);
+    let py = u.loss * fork_mark(arcs[y]);
     let charge = pair_charge(u.duplication, u.loss, b, x, y, px, py, met.cost);
     Met {
         node: b,
@@ -768,8 +776,8 @@ pub fn cost(
     requires { ⌜ Cheap u ⌝ }
     ensures { λ r. ⌜ r ≡ lcaCost (switchedOf n (now (up .entry)) (now (on .entry)) (now (height .entry))) (genesOf m (now (left .entry)) (now (right .entry)) (now (leaf .entry)) (now (mother .entry))) (costsOf u) taken ⌝ }
 {
-    let fork = forks(n, up);
-    let weight = weights(n, on, &fork, u);
+    let arcs = arcs_on(n, up);
+    let weight = weights(n, on, &arcs, u);
     let mut place = [0u32; 128];
     let mut r: u32 = 0;
     let mut g = m;
@@ -782,7 +790,7 @@ pub fn cost(
             left,
             right,
             leaf,
-            &fork,
+            &arcs,
             &weight,
             u,
             &place,

@@ -2,37 +2,33 @@
 -- cost that is the whole at 0.
 -- Assumes nothing.
 use borrow.Author.Needs.{needs}
-use Prim.Native.Nat.{ℕ, _+_, _-_, _≤_}
-use Rattle.finite.specs.Tables.{at}
+use Prim.Native.Nat.{_+_, _-_, _≤_}
 use mathlib.Core.Path.{_≡_}
 use native.Mathlib.Omega.{arith}
 use Rattle.gene_tree.specs.Genes.{zeros}
 use Rattle.mapping.specs.Switched.{switchedOf}
 use Rattle.mapping.proofs.Climbs.{up-low, on-low}
 use Rattle.mapping.proofs.Placing.{PlacedFrom, place-start, place-turn, placed-low}
-use Rattle.mapping.proofs.Mapped.{fork-low}
 use Rattle.mapping.proofs.Charges.{gathered, gather-start, gather-turn, gather-small, gather-end, paired-held}
 use Rattle.mapping.proofs.cost.Statement.{statement}
 use Rattle.mapping.proofs.cost.Tie as tie
 use Rattle.mapping.proofs.cost.Reads as reads
 use Rattle.mapping.proofs.cost.Lts as lts
-use Rattle.mapping.proofs.forks.Reads as forks-reads
+use Rattle.mapping.proofs.arcs_on.Reads as arcs-on-reads
 use Rattle.mapping.proofs.place_and_charge.Reads as place-and-charge-reads
 use Rattle.mapping.proofs.weights.Reads as weights-reads
 
 abbrev Inv-loop : tie.InvT-loop
-Inv-loop n up on height m left right leaf mother u fork weight place₀ r₀ g₀ place r g = (g ≤ m) × PlacedFrom (switchedOf n up on height) m left right leaf mother g place × (r ≡ gathered n up on height m left right leaf mother u g)
+Inv-loop n up on height m left right leaf mother u arcs weight place₀ r₀ g₀ place r g = (g ≤ m) × PlacedFrom (switchedOf n up on height) m left right leaf mother g place × (r ≡ gathered n up on height m left right leaf mother u g)
 
 abbrev μ-loop : tie.MeasureT-loop
-μ-loop n up on height m left right leaf mother u fork weight place₀ r₀ g₀ place r g = g
+μ-loop n up on height m left right leaf mother u arcs weight place₀ r₀ g₀ place r g = g
 
-forks-requires : tie.Need-forks-requires Inv-loop μ-loop
-forks-requires c κs = (search needs, up-low _ _ _ _ (c .pre .0))
+arcs-on-requires : tie.Need-arcs-on-requires Inv-loop μ-loop
+arcs-on-requires c κs = (search needs, up-low _ _ _ _ (c .pre .0))
 
 weights-requires : tie.Need-weights-requires Inv-loop μ-loop
-weights-requires c κs =
-    let s = c .before .before .pre in
-    (s .0 .few, s .1 .1, on-low _ _ _ _ (s .0), λ k. rw (c .before .forks .ensures) (fork-low _ _ _ _ (s .0) k))
+weights-requires c κs = let s = c .before .before .pre in (s .0 .few, s .1 .1, on-low _ _ _ _ (s .0))
 
 loop-holds : tie.Need-loop-holds Inv-loop μ-loop
 unfolding zeros
@@ -42,7 +38,7 @@ place-and-charge-requires : tie.Need-place-and-charge-requires Inv-loop μ-loop
 place-and-charge-requires c κs =
     let s = c .before .before .before .before .before .before .before .before .pre in
     let l = c .before .before .before .before .loop in
-    (s .0, ((s .1 .1, c .before .before .before .before .before .before .before .forks .ensures, c .before .before .before .before .before .weights .ensures), (omega (arith, s .1 .0 .few, l .inv .0), paired-held _ _ _ _ _ _ _ _ _ (c .before .before .before .before .before .before .before .before .args .u) (s .0) (s .1 .0) (l .g) _ (l .inv .1))))
+    (s .0, ((s .1 .1, c .before .before .before .before .before .before .before .arcs-on .ensures, c .before .before .before .before .before .weights .ensures), (omega (arith, s .1 .0 .few, l .inv .0), paired-held _ _ _ _ _ _ _ _ _ (c .before .before .before .before .before .before .before .before .args .u) (s .0) (s .1 .0) (l .g) _ (l .inv .1))))
 
 cast-place : tie.Need-cast-place Inv-loop μ-loop
 cast-place c =
@@ -77,7 +73,7 @@ cost-spec =
     (tie.spec
     Inv-loop
     μ-loop
-    forks-requires
+    arcs-on-requires
     weights-requires
     loop-holds
     place-and-charge-requires

@@ -3,12 +3,14 @@
 -- Assumes nothing.
 use native.Mathlib.Omega.{arith}
 use Rattle.mapping.proofs.Placing.{kin-left, kin-right}
-use Rattle.mapping.proofs.Charges.{product-fits, charged-leaf, pair-left-below, pair-right-below, pair-left-in, pair-right-in, pair-weights, pair-fork, pair-pass, pair-skips, charged-pair}
+use Rattle.mapping.proofs.Mapped.{fork-here, forks-told}
+use Rattle.mapping.proofs.Charges.{product-fits, marked-low, charged-leaf, pair-left-below, pair-right-below, pair-left-low, pair-right-low, pair-left-in, pair-right-in, pair-weights, pair-pass, pair-skips, charged-pair}
 use borrow.Author.Needs.{needs}
 use Rattle.mapping.proofs.place_and_charge.Statement.{statement}
 use Rattle.mapping.proofs.place_and_charge.Tie as tie
 use Rattle.mapping.proofs.place_and_charge.Reads as reads
 use Rattle.mapping.proofs.place_and_charge.Lts as lts
+use Rattle.mapping.proofs.fork_mark.Reads as fork-mark-reads
 use Rattle.mapping.proofs.meet.Reads as meet-reads
 use Rattle.mapping.proofs.pair_charge.Reads as pair-charge-reads
 use Rattle.mapping.proofs.wide.Reads as wide-reads
@@ -95,90 +97,96 @@ meet-requires c κs =
     let x = c .before .before .before .before .wide3 .ensures in
     let b = c .before .before .wide4 .ensures in
     let y = c .wide5 .ensures in
-    (s .0, (pair-weights _ _ _ _ (s .0) _ (s .1 .0 .0) _ _ _ _ (s .1 .1 .1) d _ _ _ _ a x b y _ _ (s .1 .0 .1) (s .1 .0 .2), pair-left-below _ _ _ _ (s .0) _ (s .1 .0 .0) _ _ _ _ (s .1 .1 .1) d _ _ _ _ a x b y, pair-right-below _ _ _ _ (s .0) _ (s .1 .0 .0) _ _ _ _ (s .1 .1 .1) d _ _ _ _ a x b y))
+    (s .0, (pair-weights _ _ _ _ (s .0) _ (s .1 .0 .0) _ _ _ _ (s .1 .1 .1) d _ _ _ _ a x b y _ _ (forks-told _ _ _ (s .1 .0 .1)) (s .1 .0 .2), pair-left-below _ _ _ _ (s .0) _ (s .1 .0 .0) _ _ _ _ (s .1 .1 .1) d _ _ _ _ a x b y, pair-right-below _ _ _ _ (s .0) _ (s .1 .0 .0) _ _ _ _ (s .1 .1 .1) d _ _ _ _ a x b y))
+
+mul-fork-mark : tie.Need-mul-fork-mark
+mul-fork-mark c =
+    let s = c .before .before .before .before .before .before .before .before .before .before .before .pre in
+    let d = c .before .before .before .before .before .before .before .before .before .if1 .left in
+    let a = c .before .before .before .before .before .before .before .wide2 .ensures in
+    let x = c .before .before .before .before .before .wide3 .ensures in
+    let b = c .before .before .before .wide4 .ensures in
+    let y = c .before .wide5 .ensures in
+    omega (arith, pair-left-in _ _ _ _ (s .0) _ (s .1 .0 .0) _ _ _ _ (s .1 .1 .1) d _ _ _ _ a x b y)
+
+element-copy-out-fork-mark : tie.Need-element-copy-out-fork-mark
+element-copy-out-fork-mark c =
+    let s = c .before .before .before .before .before .before .before .before .before .before .before .pre in
+    let d = c .before .before .before .before .before .before .before .before .before .if1 .left in
+    let a = c .before .before .before .before .before .before .before .wide2 .ensures in
+    let x = c .before .before .before .before .before .wide3 .ensures in
+    let b = c .before .before .before .wide4 .ensures in
+    let y = c .before .wide5 .ensures in
+    omega (arith, pair-left-in _ _ _ _ (s .0) _ (s .1 .0 .0) _ _ _ _ (s .1 .1 .1) d _ _ _ _ a x b y)
+
+fork-mark-requires : tie.Need-fork-mark-requires
+fork-mark-requires c κs = search needs
 
 mul-px : tie.Need-mul-px
 mul-px c =
-    let s = c .before .before .before .before .before .before .before .before .before .before .before .pre in
-    let d = c .before .before .before .before .before .before .before .before .before .if1 .left in
-    let a = c .before .before .before .before .before .before .before .wide2 .ensures in
-    let x = c .before .before .before .before .before .wide3 .ensures in
-    let b = c .before .before .before .wide4 .ensures in
-    let y = c .before .wide5 .ensures in
-    omega (arith, pair-left-in _ _ _ _ (s .0) _ (s .1 .0 .0) _ _ _ _ (s .1 .1 .1) d _ _ _ _ a x b y)
+    let s = c .before .before .before .before .before .before .before .before .before .before .before .before .before .before .pre in
+    let f = c .before .fork-mark .ensures in
+    omega (arith, product-fits _ (c .before .fork-mark .result) (s .1 .0 .0 .loss) (marked-low _ _ f))
 
-element-copy-out-px : tie.Need-element-copy-out-px
-element-copy-out-px c =
-    let s = c .before .before .before .before .before .before .before .before .before .before .before .pre in
-    let d = c .before .before .before .before .before .before .before .before .before .if1 .left in
-    let a = c .before .before .before .before .before .before .before .wide2 .ensures in
-    let x = c .before .before .before .before .before .wide3 .ensures in
-    let b = c .before .before .before .wide4 .ensures in
-    let y = c .before .wide5 .ensures in
-    omega (arith, pair-left-in _ _ _ _ (s .0) _ (s .1 .0 .0) _ _ _ _ (s .1 .1 .1) d _ _ _ _ a x b y)
+mul-fork-mark-2 : tie.Need-mul-fork-mark-2
+mul-fork-mark-2 c =
+    let s = c .before .before .before .before .before .before .before .before .before .before .before .before .before .before .pre in
+    let d = c .before .before .before .before .before .before .before .before .before .before .before .before .if1 .left in
+    let a = c .before .before .before .before .before .before .before .before .before .before .wide2 .ensures in
+    let x = c .before .before .before .before .before .before .before .before .wide3 .ensures in
+    let b = c .before .before .before .before .before .before .wide4 .ensures in
+    let y = c .before .before .before .before .wide5 .ensures in
+    omega (arith, pair-right-in _ _ _ _ (s .0) _ (s .1 .0 .0) _ _ _ _ (s .1 .1 .1) d _ _ _ _ a x b y)
 
-mul-px-2 : tie.Need-mul-px-2
-mul-px-2 c =
-    let s = c .before .before .before .before .before .before .before .before .before .before .before .before .before .pre in
-    let d = c .before .before .before .before .before .before .before .before .before .before .before .if1 .left in
-    let a = c .before .before .before .before .before .before .before .before .before .wide2 .ensures in
-    let x = c .before .before .before .before .before .before .before .wide3 .ensures in
-    let b = c .before .before .before .before .before .wide4 .ensures in
-    let y = c .before .before .before .wide5 .ensures in
-    omega (arith, product-fits _ _ (s .1 .0 .0 .loss) (pair-fork _ _ _ _ (s .0) _ (s .1 .0 .0) _ _ _ _ (s .1 .1 .1) d _ _ _ _ a x b y _ _ (s .1 .0 .1) (s .1 .0 .2) (c .before .before .before .before .before .before .before .wide3 .result)))
+element-copy-out-fork-mark-2 : tie.Need-element-copy-out-fork-mark-2
+element-copy-out-fork-mark-2 c =
+    let s = c .before .before .before .before .before .before .before .before .before .before .before .before .before .before .pre in
+    let d = c .before .before .before .before .before .before .before .before .before .before .before .before .if1 .left in
+    let a = c .before .before .before .before .before .before .before .before .before .before .wide2 .ensures in
+    let x = c .before .before .before .before .before .before .before .before .wide3 .ensures in
+    let b = c .before .before .before .before .before .before .wide4 .ensures in
+    let y = c .before .before .before .before .wide5 .ensures in
+    omega (arith, pair-right-in _ _ _ _ (s .0) _ (s .1 .0 .0) _ _ _ _ (s .1 .1 .1) d _ _ _ _ a x b y)
+
+fork-mark-requires-2 : tie.Need-fork-mark-requires-2
+fork-mark-requires-2 c κs = search needs
 
 mul-py : tie.Need-mul-py
 mul-py c =
-    let s = c .before .before .before .before .before .before .before .before .before .before .before .before .before .pre in
-    let d = c .before .before .before .before .before .before .before .before .before .before .before .if1 .left in
-    let a = c .before .before .before .before .before .before .before .before .before .wide2 .ensures in
-    let x = c .before .before .before .before .before .before .before .wide3 .ensures in
-    let b = c .before .before .before .before .before .wide4 .ensures in
-    let y = c .before .before .before .wide5 .ensures in
-    omega (arith, pair-right-in _ _ _ _ (s .0) _ (s .1 .0 .0) _ _ _ _ (s .1 .1 .1) d _ _ _ _ a x b y)
-
-element-copy-out-py : tie.Need-element-copy-out-py
-element-copy-out-py c =
-    let s = c .before .before .before .before .before .before .before .before .before .before .before .before .before .pre in
-    let d = c .before .before .before .before .before .before .before .before .before .before .before .if1 .left in
-    let a = c .before .before .before .before .before .before .before .before .before .wide2 .ensures in
-    let x = c .before .before .before .before .before .before .before .wide3 .ensures in
-    let b = c .before .before .before .before .before .wide4 .ensures in
-    let y = c .before .before .before .wide5 .ensures in
-    omega (arith, pair-right-in _ _ _ _ (s .0) _ (s .1 .0 .0) _ _ _ _ (s .1 .1 .1) d _ _ _ _ a x b y)
-
-mul-py-2 : tie.Need-mul-py-2
-mul-py-2 c =
-    let s = c .before .before .before .before .before .before .before .before .before .before .before .before .before .before .before .pre in
-    let d = c .before .before .before .before .before .before .before .before .before .before .before .before .before .if1 .left in
-    let a = c .before .before .before .before .before .before .before .before .before .before .before .wide2 .ensures in
-    let x = c .before .before .before .before .before .before .before .before .before .wide3 .ensures in
-    let b = c .before .before .before .before .before .before .before .wide4 .ensures in
-    let y = c .before .before .before .before .before .wide5 .ensures in
-    omega (arith, product-fits _ _ (s .1 .0 .0 .loss) (pair-fork _ _ _ _ (s .0) _ (s .1 .0 .0) _ _ _ _ (s .1 .1 .1) d _ _ _ _ a x b y _ _ (s .1 .0 .1) (s .1 .0 .2) (c .before .before .before .before .before .wide5 .result)))
+    let s = c .before .before .before .before .before .before .before .before .before .before .before .before .before .before .before .before .before .pre in
+    let f = c .before .fork-mark2 .ensures in
+    omega (arith, product-fits _ (c .before .fork-mark2 .result) (s .1 .0 .0 .loss) (marked-low _ _ f))
 
 pair-charge-requires : tie.Need-pair-charge-requires
 pair-charge-requires c κs =
-    let s = c .before .before .before .before .before .before .before .before .before .before .before .before .before .before .before .pre in
-    let d = c .before .before .before .before .before .before .before .before .before .before .before .before .before .if1 .left in
-    let a = c .before .before .before .before .before .before .before .before .before .before .before .wide2 .ensures in
-    let x = c .before .before .before .before .before .before .before .before .before .wide3 .ensures in
-    let b = c .before .before .before .before .before .before .before .wide4 .ensures in
-    let y = c .before .before .before .before .before .wide5 .ensures in
-    let q = c .before .before .before .before .meet .ensures in
-    (s .1 .0 .0 .duplication, s .1 .0 .0 .loss, pair-pass _ _ _ _ (s .0) _ (s .1 .0 .0) _ _ _ _ (s .1 .1 .1) d _ _ _ _ a x b y _ _ (s .1 .0 .1) (s .1 .0 .2) _, pair-pass _ _ _ _ (s .0) _ (s .1 .0 .0) _ _ _ _ (s .1 .1 .1) d _ _ _ _ a x b y _ _ (s .1 .0 .1) (s .1 .0 .2) _, q .small, pair-skips _ _ _ _ (s .0) _ (s .1 .0 .0) _ _ _ _ (s .1 .1 .1) d _ _ _ _ a x b y _ _ (s .1 .0 .1) (s .1 .0 .2) _ _ q)
+    let s = c .before .before .before .before .before .before .before .before .before .before .before .before .before .before .before .before .before .pre in
+    let d = c .before .before .before .before .before .before .before .before .before .before .before .before .before .before .before .if1 .left in
+    let a = c .before .before .before .before .before .before .before .before .before .before .before .before .before .wide2 .ensures in
+    let x = c .before .before .before .before .before .before .before .before .before .before .before .wide3 .ensures in
+    let b = c .before .before .before .before .before .before .before .before .before .wide4 .ensures in
+    let y = c .before .before .before .before .before .before .before .wide5 .ensures in
+    let q = c .before .before .before .before .before .before .meet .ensures in
+    let f = c .before .before .before .before .fork-mark .ensures in
+    let h = c .before .fork-mark2 .ensures in
+    let fx = fork-here (c .before .before .before .before .before .before .before .before .before .before .before .before .before .before .before .before .before .args .arcs .now) _ _ (pair-left-low _ _ _ _ (s .0) _ (s .1 .0 .0) _ _ _ _ (s .1 .1 .1) d _ _ _ _ a x b y) (pair-left-in _ _ _ _ (s .0) _ (s .1 .0 .0) _ _ _ _ (s .1 .1 .1) d _ _ _ _ a x b y) f in
+    let fy = fork-here (c .before .before .before .before .before .before .before .before .before .before .before .before .before .before .before .before .before .args .arcs .now) _ _ (pair-right-low _ _ _ _ (s .0) _ (s .1 .0 .0) _ _ _ _ (s .1 .1 .1) d _ _ _ _ a x b y) (pair-right-in _ _ _ _ (s .0) _ (s .1 .0 .0) _ _ _ _ (s .1 .1 .1) d _ _ _ _ a x b y) h in
+    (s .1 .0 .0 .duplication, s .1 .0 .0 .loss, rw fx (pair-pass _ _ _ _ (s .0) _ (s .1 .0 .0) _ _ _ _ (s .1 .1 .1) d _ _ _ _ a x b y _ _ (forks-told _ _ _ (s .1 .0 .1)) (s .1 .0 .2) _), rw fy (pair-pass _ _ _ _ (s .0) _ (s .1 .0 .0) _ _ _ _ (s .1 .1 .1) d _ _ _ _ a x b y _ _ (forks-told _ _ _ (s .1 .0 .1)) (s .1 .0 .2) _), q .small, rw (fx, fy) (pair-skips _ _ _ _ (s .0) _ (s .1 .0 .0) _ _ _ _ (s .1 .1 .1) d _ _ _ _ a x b y _ _ (forks-told _ _ _ (s .1 .0 .1)) (s .1 .0 .2) _ _ q))
 
 returns-2 : tie.Need-returns-2
 returns-2 c =
-    let s = c .before .before .before .before .before .before .before .before .before .before .before .before .before .before .before .before .pre in
-    let d = c .before .before .before .before .before .before .before .before .before .before .before .before .before .before .if1 .left in
-    let a = c .before .before .before .before .before .before .before .before .before .before .before .before .wide2 .ensures in
-    let x = c .before .before .before .before .before .before .before .before .before .before .wide3 .ensures in
-    let b = c .before .before .before .before .before .before .before .before .wide4 .ensures in
-    let y = c .before .before .before .before .before .before .wide5 .ensures in
-    let q = c .before .before .before .before .before .meet .ensures in
+    let s = c .before .before .before .before .before .before .before .before .before .before .before .before .before .before .before .before .before .before .pre in
+    let d = c .before .before .before .before .before .before .before .before .before .before .before .before .before .before .before .before .if1 .left in
+    let a = c .before .before .before .before .before .before .before .before .before .before .before .before .before .before .wide2 .ensures in
+    let x = c .before .before .before .before .before .before .before .before .before .before .before .before .wide3 .ensures in
+    let b = c .before .before .before .before .before .before .before .before .before .before .wide4 .ensures in
+    let y = c .before .before .before .before .before .before .before .before .wide5 .ensures in
+    let q = c .before .before .before .before .before .before .before .meet .ensures in
+    let f = c .before .before .before .before .before .fork-mark .ensures in
+    let h = c .before .before .fork-mark2 .ensures in
     let e = c .pair-charge .ensures in
-    charged-pair _ _ _ _ (s .0) _ (s .1 .0 .0) _ _ _ _ (s .1 .1 .1) d _ _ _ _ a x b y _ _ (s .1 .0 .1) (s .1 .0 .2) _ _ q _ _ e
+    let fx = fork-here (c .before .before .before .before .before .before .before .before .before .before .before .before .before .before .before .before .before .before .args .arcs .now) _ _ (pair-left-low _ _ _ _ (s .0) _ (s .1 .0 .0) _ _ _ _ (s .1 .1 .1) d _ _ _ _ a x b y) (pair-left-in _ _ _ _ (s .0) _ (s .1 .0 .0) _ _ _ _ (s .1 .1 .1) d _ _ _ _ a x b y) f in
+    let fy = fork-here (c .before .before .before .before .before .before .before .before .before .before .before .before .before .before .before .before .before .before .args .arcs .now) _ _ (pair-right-low _ _ _ _ (s .0) _ (s .1 .0 .0) _ _ _ _ (s .1 .1 .1) d _ _ _ _ a x b y) (pair-right-in _ _ _ _ (s .0) _ (s .1 .0 .0) _ _ _ _ (s .1 .1 .1) d _ _ _ _ a x b y) h in
+    charged-pair _ _ _ _ (s .0) _ (s .1 .0 .0) _ _ _ _ (s .1 .1 .1) d _ _ _ _ a x b y _ _ (forks-told _ _ _ (s .1 .0 .1)) (s .1 .0 .2) _ _ q _ _ (rw (fx, fy) at e)
 
 pub place-and-charge-spec : {M : Type 1} → statement M
 place-and-charge-spec =
@@ -203,11 +211,13 @@ place-and-charge-spec =
     element-copy-out-wide-5
     wide-requires-5
     meet-requires
+    mul-fork-mark
+    element-copy-out-fork-mark
+    fork-mark-requires
     mul-px
-    element-copy-out-px
-    mul-px-2
+    mul-fork-mark-2
+    element-copy-out-fork-mark-2
+    fork-mark-requires-2
     mul-py
-    element-copy-out-py
-    mul-py-2
     pair-charge-requires
     returns-2)
