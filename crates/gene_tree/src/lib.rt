@@ -157,12 +157,13 @@ pub fn left_children(m: usize, parent: &[u32; 128]) -> [u32; 128]
     tables::first_children(m, parent)
 }
 
-// Each gene's other child, 0 for a leaf gene, given the lowest-numbered ones.
-pub fn right_children(m: usize, parent: &[u32; 128], left: &[u32; 128]) -> [u32; 128]
-    requires { ⌜ (m ≤ 127) × (now left ≡ leftTable m (now parent)) ⌝ }
+// Each gene's other child, 0 for a leaf gene.
+pub fn right_children(m: usize, parent: &[u32; 128]) -> [u32; 128]
+    requires { ⌜ m ≤ 127 ⌝ }
     ensures { λ r. ⌜ r ≡ rightTable m (now (parent .entry)) ⌝ }
 {
-    tables::second_children(m, parent, left)
+    let left = tables::first_children(m, parent);
+    tables::second_children(m, parent, &left)
 }
 
 fn leaf_of(

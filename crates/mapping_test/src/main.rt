@@ -134,7 +134,7 @@ fn genes_on(
         return;
     }
     let left = gene_tree::left_children(m, parent);
-    let right = gene_tree::right_children(m, parent, &left);
+    let right = gene_tree::right_children(m, parent);
     let leaf = gene_tree::leaf_nodes(m, species, n, borne);
     show(n, up, on, height, m, &left, &right, &leaf, parent, u);
 }

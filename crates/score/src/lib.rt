@@ -119,7 +119,7 @@ fn write_family(
     let members = network::components::members(n, secondary, &top);
     let index = network::components::indices(n, secondary, &top);
     let left = gene_tree::left_children(m, parent);
-    let right = gene_tree::right_children(m, parent, &left);
+    let right = gene_tree::right_children(m, parent);
     let leaf = gene_tree::leaf_nodes(m, kind, n, species);
     let costs = UnitCosts {
         duplication: h.duplication,

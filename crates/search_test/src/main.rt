@@ -433,7 +433,7 @@ fn searched(
     let members = network::components::members(n, secondary, &top);
     let index = network::components::indices(n, secondary, &top);
     let left = gene_tree::left_children(m, mother);
-    let right = gene_tree::right_children(m, mother, &left);
+    let right = gene_tree::right_children(m, mother);
     let leaf = gene_tree::leaf_nodes(m, genes, n, species);
     search::run(
         n,
