@@ -61,7 +61,7 @@ fn top(t: &Board, v: u32) -> u32 {
 }
 
 // Writes the tops of all reticulations.
-pub fn find_tops(t: &mut Board) {
+pub(crate) fn find_tops(t: &mut Board) {
     let mut v = get(t, HEADER, NODES);
     while 0 < v {
         if get(t, SECONDARY, v) != 0 {
@@ -73,7 +73,7 @@ pub fn find_tops(t: &mut Board) {
 }
 
 // The components with a reticulation, and the trials of all of them.
-pub struct Sizes {
+pub(crate) struct Sizes {
     pub components: u32,
     pub trials: u32,
 }
@@ -88,7 +88,7 @@ fn with_component(sizes: Sizes, reticulations: u32) -> Sizes {
     }
 }
 
-pub fn add_up(t: &Board) -> Sizes {
+pub(crate) fn add_up(t: &Board) -> Sizes {
     let mut r = Sizes {
         components: 0,
         trials: 0,

@@ -6,27 +6,27 @@ use super::board::set;
 use std::num::wrapping_add_u32;
 
 // What draws are for. Those from 32 on are for genes: what becomes of gene g at a node is for 32 + g.
-pub const SHAPE: u32 = 0;
+pub(crate) const SHAPE: u32 = 0;
 
-pub const DAMAGE: u32 = 1;
+pub(crate) const DAMAGE: u32 = 1;
 
-pub const COST_KIND: u32 = 2;
+pub(crate) const COST_KIND: u32 = 2;
 
-pub const COST: u32 = 3;
+pub(crate) const COST: u32 = 3;
 
-pub const SHUFFLE: u32 = 4;
+pub(crate) const SHUFFLE: u32 = 4;
 
-pub const LINEAGE: u32 = 5;
+pub(crate) const LINEAGE: u32 = 5;
 
-pub const RECEIVER: u32 = 6;
+pub(crate) const RECEIVER: u32 = 6;
 
-pub const WILL: u32 = 7;
+pub(crate) const WILL: u32 = 7;
 
-pub const STRAY: u32 = 8;
+pub(crate) const STRAY: u32 = 8;
 
-pub const STRAY_LEAF: u32 = 9;
+pub(crate) const STRAY_LEAF: u32 = 9;
 
-pub const COPY: u32 = 10;
+pub(crate) const COPY: u32 = 10;
 
 // A one-to-one map of the words of 32 bits (xorshift).
 fn mixed(x: u32) -> u32 {
@@ -36,7 +36,7 @@ fn mixed(x: u32) -> u32 {
 }
 
 // A number below `end`, or 0: draw i of those for one purpose. Sums between the maps, since the maps alone are linear.
-pub fn draw(sheet: u32, purpose: u32, i: u32, end: u32) -> u32 {
+pub(crate) fn draw(sheet: u32, purpose: u32, i: u32, end: u32) -> u32 {
     if end == 0 {
         return 0;
     }
@@ -47,7 +47,7 @@ pub fn draw(sheet: u32, purpose: u32, i: u32, end: u32) -> u32 {
 }
 
 // A column of a row that does not hold 0, other than `but`: the first going round from a drawn one; 0 where there is none.
-pub fn choose(t: &Board, row: u32, but: u32, drawn: u32) -> u32 {
+pub(crate) fn choose(t: &Board, row: u32, but: u32, drawn: u32) -> u32 {
     let mut i: u32 = 31;
     while 0 < i {
         let v = 1 + (drawn % 31 + i % 32) % 31;
@@ -62,7 +62,7 @@ pub fn choose(t: &Board, row: u32, but: u32, drawn: u32) -> u32 {
 }
 
 // The numbers 1 to n in a random order.
-pub fn shuffle(t: &mut Board, sheet: u32, n: u32) {
+pub(crate) fn shuffle(t: &mut Board, sheet: u32, n: u32) {
     let mut i: u32 = 0;
     while i < n {
         i += 1;
@@ -74,7 +74,7 @@ pub fn shuffle(t: &mut Board, sheet: u32, n: u32) {
 }
 
 // A cost: now and then 0, mostly small, so that settings tie.
-pub fn cost(sheet: u32, i: u32) -> u32 {
+pub(crate) fn cost(sheet: u32, i: u32) -> u32 {
     let kind = draw(sheet, COST_KIND, i, 8);
     if kind == 0 {
         return 0;

@@ -76,7 +76,7 @@ fn damage(text: &mut Text, sheet: u32, lines: u32) {
 }
 
 // Writes a random sheet, and returns how many lines it has.
-pub fn spell_sheet(text: &mut Text, sheet: u32) -> u32 {
+pub(crate) fn spell_sheet(text: &mut Text, sheet: u32) -> u32 {
     let mut t = [0u32; 1024];
     grow(&mut t, sheet);
     let n = get(&t, HEADER, NODES);

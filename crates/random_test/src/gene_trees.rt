@@ -19,7 +19,7 @@ use super::draws::choose;
 use super::draws::draw;
 
 // The species of v, or 0 if it is no leaf. It is not the leaf's number, but tells it: 13 is odd, so no two of 32 numbers have the same.
-pub fn species(t: &Board, v: u32) -> u32 {
+pub(crate) fn species(t: &Board, v: u32) -> u32 {
     if get(t, LIVE, v) == 0 {
         return 0;
     }
@@ -93,7 +93,7 @@ fn settle(t: &mut Board, sheet: u32, g: u32) {
 }
 
 // The tree of a network whose on arcs are chosen; gene 1 starts at the root.
-pub fn descend(t: &mut Board, sheet: u32) {
+pub(crate) fn descend(t: &mut Board, sheet: u32) {
     start(t, 0, 1);
     let mut g: u32 = 0;
     while g < 31 {

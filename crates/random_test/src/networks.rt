@@ -69,7 +69,7 @@ fn step(t: &mut Board, sheet: u32, time: u32, willing: u32) {
     transfer(t, v, w, time);
 }
 
-pub fn grow(t: &mut Board, sheet: u32) {
+pub(crate) fn grow(t: &mut Board, sheet: u32) {
     start(t, 0, 0);
     let willing = draw(sheet, SHAPE, 0, 4);
     let events = draw(sheet, SHAPE, 1, 16);

@@ -23,9 +23,9 @@ use super::text::spell;
 use super::text::start_of;
 
 // What result and scratch are filled with before a sheet is scored.
-pub const BYTE: u8 = 170;
+pub(crate) const BYTE: u8 = 170;
 
-pub const WORD: u32 = 2863311530;
+pub(crate) const WORD: u32 = 2863311530;
 
 // The line of node v, if it is a reticulation; returns the line after it.
 fn spell_reticulation(text: &mut Text, line: u32, t: &Board, v: u32) -> u32 {
@@ -102,7 +102,7 @@ fn spell_totals(text: &mut Text, t: &Board, cost: u32, whole: u32) {
 }
 
 // Spells the report on the setting that is on, and returns how many bytes it has.
-pub fn spell_report(text: &mut Text, t: &Board, cost: u32, whole: u32) -> u32 {
+pub(crate) fn spell_report(text: &mut Text, t: &Board, cost: u32, whole: u32) -> u32 {
     spell_totals(text, t, cost, whole);
     let line = spell_reticulations(text, 2, t);
     spell_genes(text, line, t);
@@ -110,7 +110,7 @@ pub fn spell_report(text: &mut Text, t: &Board, cost: u32, whole: u32) -> u32 {
 }
 
 // Whether the result is what was spelled on what it was filled with.
-pub fn same_bytes(result: &Text, text: &Text) -> bool {
+pub(crate) fn same_bytes(result: &Text, text: &Text) -> bool {
     let mut k: u32 = 0;
     while k < 5952 {
         if byte(result, k) != byte(text, k) {
@@ -130,7 +130,7 @@ fn word(scratch: &[u32; 16129], k: u32) -> u32 {
 }
 
 // Whether the scratch is untouched from a word on.
-pub fn untouched(scratch: &[u32; 16129], first: u32) -> bool {
+pub(crate) fn untouched(scratch: &[u32; 16129], first: u32) -> bool {
     let mut k = first;
     while k < 16129 {
         if word(scratch, k) != WORD {

@@ -27,10 +27,10 @@ use super::board::times;
 use super::board::total;
 
 // The event of a duplication.
-pub const DUPLICATED: u32 = 2;
+pub(crate) const DUPLICATED: u32 = 2;
 
 // The first of the cheapest settings, its cost, and how many settings cost as much.
-pub struct Best {
+pub(crate) struct Best {
     pub setting: u32,
     pub cost: u32,
     pub equals: u32,
@@ -53,7 +53,7 @@ fn turn_at(t: &mut Board, v: u32, bits: u32) -> u32 {
 }
 
 // Turns setting x on: the highest-numbered reticulation has the lowest bit, so settings rise in the stated order.
-pub fn turn(t: &mut Board, x: u32) {
+pub(crate) fn turn(t: &mut Board, x: u32) {
     let mut bits = x;
     let mut v = get(t, HEADER, NODES);
     while 0 < v {
@@ -204,7 +204,7 @@ fn cost(t: &Board) -> u32 {
 }
 
 // What setting x costs; it is on, and the genes are placed, from here on.
-pub fn try_setting(t: &mut Board, x: u32) -> u32 {
+pub(crate) fn try_setting(t: &mut Board, x: u32) -> u32 {
     turn(t, x);
     place_all(t);
     cost(t)
@@ -225,11 +225,11 @@ fn better(best: Best, x: u32, cost: u32) -> Best {
     }
 }
 
-pub fn settings(reticulations: u32) -> u32 {
+pub(crate) fn settings(reticulations: u32) -> u32 {
     1 << reticulations % 12
 }
 
-pub fn enumerate(t: &mut Board, all: u32) -> Best {
+pub(crate) fn enumerate(t: &mut Board, all: u32) -> Best {
     let mut best = Best {
         setting: 0,
         cost: 1000000,

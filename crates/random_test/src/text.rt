@@ -4,16 +4,16 @@ use super::board::HEADER;
 use super::board::set;
 ghost use Prim.Native.Nat.{_<_};
 
-pub type Text = [u8; 5952];
+pub(crate) type Text = [u8; 5952];
 
-pub fn set_byte(text: &mut Text, at: u32, byte: u8) {
+pub(crate) fn set_byte(text: &mut Text, at: u32, byte: u8) {
     let k = at as usize;
     if k < 5952 {
         text[k] = byte;
     }
 }
 
-pub fn byte(text: &Text, at: u32) -> u8 {
+pub(crate) fn byte(text: &Text, at: u32) -> u8 {
     let k = at as usize;
     if k < 5952 {
         return text[k];
@@ -22,7 +22,7 @@ pub fn byte(text: &Text, at: u32) -> u8 {
 }
 
 // Where a field begins; field 5 is the line feed.
-pub fn start_of(line: u32, field: u32) -> u32
+pub(crate) fn start_of(line: u32, field: u32) -> u32
     ensures { λ r. ⌜ r < 6000 ⌝ }
 {
     31 * (line % 192) + 6 * (field % 6)
@@ -38,7 +38,7 @@ fn column(rest: u32, at: u32) -> u8 {
     b'0' + (rest % 10) as u8
 }
 
-pub fn spell_field(text: &mut Text, line: u32, field: u32, x: u32) {
+pub(crate) fn spell_field(text: &mut Text, line: u32, field: u32, x: u32) {
     let start = start_of(line, field);
     let mut rest = x;
     let mut at: u32 = 6;
@@ -49,7 +49,7 @@ pub fn spell_field(text: &mut Text, line: u32, field: u32, x: u32) {
     }
 }
 
-pub fn spell(text: &mut Text, line: u32, a: u32, b: u32, c: u32, d: u32, e: u32) {
+pub(crate) fn spell(text: &mut Text, line: u32, a: u32, b: u32, c: u32, d: u32, e: u32) {
     spell_field(text, line, 0, a);
     spell_field(text, line, 1, b);
     spell_field(text, line, 2, c);
@@ -66,7 +66,7 @@ fn with_column(x: u32, byte: u8) -> u32 {
     10 * (x % 100000) + (byte - b'0') as u32
 }
 
-pub fn number(text: &Text, line: u32, field: u32) -> u32 {
+pub(crate) fn number(text: &Text, line: u32, field: u32) -> u32 {
     let start = start_of(line, field);
     let mut x: u32 = 0;
     let mut at: u32 = 0;
@@ -78,7 +78,7 @@ pub fn number(text: &Text, line: u32, field: u32) -> u32 {
 }
 
 // The numbers of the first line.
-pub fn read_header(t: &mut Board, text: &Text) {
+pub(crate) fn read_header(t: &mut Board, text: &Text) {
     let mut field: u32 = 0;
     while field < 5 {
         set(t, HEADER, field, number(text, 0, field));
@@ -87,7 +87,7 @@ pub fn read_header(t: &mut Board, text: &Text) {
 }
 
 // A row from a field of the `count` lines after line `first`.
-pub fn read(t: &mut Board, row: u32, text: &Text, first: u32, count: u32, field: u32) {
+pub(crate) fn read(t: &mut Board, row: u32, text: &Text, first: u32, count: u32, field: u32) {
     let mut i = count;
     while 0 < i {
         set(t, row, i, number(text, first % 64 + i % 64, field));
