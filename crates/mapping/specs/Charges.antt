@@ -1,4 +1,4 @@
--- The last-common-ancestor cost gathered at the parents: a gene is charged for its duplication and for its children's ways, both of which end where
+-- The last-common-ancestor cost (01, "Settings and placement") gathered at the parents: a gene is charged for its duplication and for its children's ways, both of which end where
 -- the climbs from the children meet. Each node on a way has a weight, what a gene pays that passes it.
 -- Assumes nothing.
 use mathlib.Core.Path.{_≡_}

@@ -86,13 +86,6 @@ pub record Mapped (totals : Totals) (n : ℕ) (up on height : List ℕ) (m : ℕ
       (lossTable n up on height m left right leaf mother)
   pub room : reportLength n m (hasSecondary secondary) ≤ bytes
 
--- and the tables of its genes
-pub record Placed (n : ℕ) (up on height : List ℕ) (m : ℕ) (left right leaf mother place event transfers losses : List ℕ) : Type 0 where
-  pub places : place ≡ placeTable n up on height m left right leaf mother
-  pub events : event ≡ eventTable n up on height m left right leaf mother
-  pub moves : transfers ≡ transferTable n up on height m left right leaf mother
-  pub lost : losses ≡ lossTable n up on height m left right leaf mother
-
 -- the report, by these tables
 abbrev pub mappedReport : (totals : Totals) (n : ℕ) (up on height : List ℕ) (m : ℕ) (left right leaf mother secondary top members : List ℕ) → List ℕ
 mappedReport totals n up on height m left right leaf mother secondary top members = reportOf totals n m (hasSecondary secondary) (at up) (at on) (at top) (at members)

@@ -13,10 +13,11 @@ ghost use Rattle.finite.specs.Tests.{same, tally};
 ghost use Rattle.finite.specs.Range.{count};
 ghost use Rattle.columns.specs.Lines.{written};
 ghost use Rattle.report.specs.Reports.{hasSecondary, reportLength};
+ghost use Rattle.mapping.specs.Evaluated.{Tabled};
 ghost use Rattle.score.specs.Families.{Tables, tablesOf};
 ghost use Rattle.score.specs.Refusals.{leastWords, leastBytes, curators, firstFrom, refusal};
 ghost use Rattle.score.specs.Outcome.{Outcome, Promise};
-ghost use Rattle.score.specs.Stages.{tablesBy, cellTables, Lined, Sized, Passed, Written, Mapped, Placed, mappedReport};
+ghost use Rattle.score.specs.Stages.{tablesBy, cellTables, Lined, Sized, Passed, Written, Mapped, mappedReport};
 
 // The least scratch, in words, and the least result, in bytes.
 const LEAST_WORDS: usize = 16129;
@@ -76,7 +77,7 @@ fn write_mapped(
     result: &mut [u8],
 ) -> usize
     requires { ⌜ Mapped totals n (now up) (now on) (now height) m (now left) (now right) (now leaf) (now mother) (now secondary) (now top) (now members) (length (now result)) ⌝ }
-    requires { ⌜ Placed n (now up) (now on) (now height) m (now left) (now right) (now leaf) (now mother) (now place) (now event) (now transfers) (now losses) ⌝ }
+    requires { ⌜ Tabled n (now up) (now on) (now height) m (now left) (now right) (now leaf) (now mother) (now place) (now event) (now transfers) (now losses) ⌝ }
     ensures { λ r. ⌜ (now (result .exit) ≡ written (now (result .entry)) (mappedReport totals n (now (up .entry)) (now (on .entry)) (now (height .entry)) m (now (left .entry)) (now (right .entry)) (now (leaf .entry)) (now (mother .entry)) (now (secondary .entry)) (now (top .entry)) (now (members .entry)))) × (r ≡ reportLength n m (hasSecondary (now (secondary .entry)))) ⌝ }
 {
     report::write_report(

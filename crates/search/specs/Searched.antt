@@ -2,14 +2,12 @@
 -- network, the first of the cheapest in 01's order.
 -- Assumes nothing.
 use mathlib.Core.Path.{_≡_}
-use mathlib.Core.List.{List}
 use Prim.Native.Nat.{ℕ, _≤_}
 use Rattle.finite.specs.Tests.{tally}
 use Rattle.finite.specs.Tables.{at}
 use Rattle.topology.specs.Networks.{Network}
 use Rattle.topology.specs.Switchings.{Switching, onSecondary, parent}
 use Rattle.reconciliation.specs.GeneTrees.{GeneTree}
-use Rattle.mapping.specs.Genes.{placeTable, eventTable, transferTable, lossTable}
 use Rattle.mapping.specs.Score.{costsOf, scoreOf}
 use Rattle.mapping.specs.declared.UnitCosts.{UnitCosts}
 use Rattle.optimum.specs.Optimum.{assembled, trials, best, Optimal}
@@ -35,10 +33,3 @@ pub record Searched (N : Network) (G : GeneTree) (u : UnitCosts) (f : Found) : T
   pub score : f .score ≡ scoreOf N G u (reported N f)
   -- demand 3: for every switching of the whole network, and with the order at ties
   pub optimal : Optimal N G (costsOf u) (reported N f)
-
--- the genes under the switching reported, as tables
-pub record Listed (n : ℕ) (height : List ℕ) (m : ℕ) (left right leaf mother : List ℕ) (f : Found) : Type 0 where
-  pub place : f .place ≡ placeTable n (f .up) (f .on) height m left right leaf mother
-  pub event : f .event ≡ eventTable n (f .up) (f .on) height m left right leaf mother
-  pub transfers : f .transfers ≡ transferTable n (f .up) (f .on) height m left right leaf mother
-  pub losses : f .losses ≡ lossTable n (f .up) (f .on) height m left right leaf mother

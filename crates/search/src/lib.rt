@@ -12,12 +12,13 @@ ghost use Rattle.network.specs.Trials.{trialsOf};
 ghost use Rattle.mapping.specs.Genes.{genesOf};
 ghost use Rattle.mapping.specs.Settings.{bitOf};
 ghost use Rattle.mapping.specs.Score.{costsOf};
+ghost use Rattle.mapping.specs.Evaluated.{Tabled};
 ghost use Rattle.optimum.specs.Optimum.{settings, trials, trialCost};
 ghost use Rattle.optimum.specs.Machine.{stateOf, scored, after, searchAfter};
 ghost use Rattle.search.specs.Prepared.{Prepared};
 ghost use Rattle.search.specs.Steps.{takes, settled, Awaiting, Scored, Reached};
 ghost use Rattle.search.specs.Reported.{markBy, reportedAt, reportedTable, Indexed};
-ghost use Rattle.search.specs.Searched.{Searched, Listed};
+ghost use Rattle.search.specs.Searched.{Searched};
 
 // The state: the best setting so far of each component, at its top; what the best of the component being scored costs; the count of trials.
 pub struct State {
@@ -320,7 +321,7 @@ pub fn run(
 ) -> Found
     requires { ⌜ Prepared n (now principal) (now secondary) (now stamp) (now height) (now top) (now members) (now index) m (now left) (now right) (now leaf) (now mother) u ⌝ }
     ensures { λ r. ⌜ Searched (networkOf n (now (principal .entry)) (now (secondary .entry)) (now (stamp .entry))) (genesOf m (now (left .entry)) (now (right .entry)) (now (leaf .entry)) (now (mother .entry))) u r ⌝ }
-    ensures { λ r. ⌜ Listed n (now (height .entry)) m (now (left .entry)) (now (right .entry)) (now (leaf .entry)) (now (mother .entry)) r ⌝ }
+    ensures { λ r. ⌜ Tabled n (r .up) (r .on) (now (height .entry)) m (now (left .entry)) (now (right .entry)) (now (leaf .entry)) (now (mother .entry)) (r .place) (r .event) (r .transfers) (r .losses) ⌝ }
 {
     let s = components(
         n,

@@ -60,7 +60,7 @@ returns c =
     let t = c .before .before .before .before .before .before .before .before .transfers .ensures in
     let l = c .before .before .before .before .losses .ensures in
     let r = c .totals .ensures in
-    record { place = p; event = e; transfers = t; losses = l; score = r }
+    record { genes = record { placed = p; events = e; moved = t; lost = l }; score = r }
 
 pub evaluate-spec : {M : Type 1} → statement M
 evaluate-spec =

@@ -91,7 +91,7 @@ write-mapped-requires c κs =
     let count-some2-is = c .before .before .before .before .before .before .before .before .before .before .before .before .before .before .before .before .before .before .before .count-some2 .ensures in
     let e = fill-is in (
       mapped _ _ _ _ _ _ _ _ _ (s .0) (s .1) _ _ _ _ _ _ _ (heights-is) (tops-is) (members-is) (indices-is) (left-children-is) (right-children-is) (leaf-nodes-is) _ (run-is .0) _ _ _ (whole-is _ _ _ _ _ _ _ _ _ (s .0) (s .1) _ _ _ _ _ _ _ (heights-is) (tops-is) (members-is) (indices-is) (left-children-is) (right-children-is) (leaf-nodes-is) _ _ _ e) (whole-low _ _ _ _ _ _ _ _ _ (s .0) (s .1) _ _ _ _ _ _ _ (heights-is) (tops-is) (members-is) (indices-is) (left-children-is) (right-children-is) (leaf-nodes-is) _ _ _ e) (count-some-is .0) (count-some2-is .0),
-      record { places = run-is .1 .place; events = run-is .1 .event; moves = run-is .1 .transfers; lost = run-is .1 .losses },
+      run-is .1,
     )
 
 same-length : tie.Need-same-length

@@ -12,7 +12,7 @@ write-report-requires : tie.Need-write-report-requires
 write-report-requires c κs =
     let p = c .before .before .pre .0 in
     let q = c .before .before .pre .1 in
-    (p .switched .few, p .few-genes, p .totals-small, p .reticulations-small, genes-told _ _ _ _ _ _ _ _ (q .places) (q .events) (q .moves) (q .lost) (p .genes-small), p .room)
+    (p .switched .few, p .few-genes, p .totals-small, p .reticulations-small, genes-told _ _ _ _ _ _ _ _ (q .placed) (q .events) (q .moved) (q .lost) (p .genes-small), p .room)
 
 same-length : tie.Need-same-length
 same-length c = search needs
@@ -20,7 +20,7 @@ same-length c = search needs
 returns : tie.Need-returns
 returns c =
     let q = c .before .before .before .before .before .pre .1 in
-    report-told _ _ _ _ _ _ _ _ _ _ _ _ _ _ _ _ _ _ _ _ (q .places) (q .events) (q .moves) (q .lost) (c .before .before .write-report .ensures)
+    report-told _ _ _ _ _ _ _ _ _ _ _ _ _ _ _ _ _ _ _ _ (q .placed) (q .events) (q .moved) (q .lost) (c .before .before .write-report .ensures)
 
 pub write-mapped-spec : {M : Type 1} → statement M
 write-mapped-spec = tie.close (tie.spec write-report-requires same-length returns)

@@ -35,7 +35,7 @@ returns c =
     let on = c .before .before .before .before .before .before .before .before .before .before .reported-marks .ensures in
     let up = c .before .before .before .before .before .before .before .before .parents .ensures in
     let e = c .before .before .before .before .before .evaluate .ensures in
-    (found _ _ _ _ _ _ _ _ _ _ _ _ _ _ P _ _ _ _ _ _ _ _ _ last on up (e .score), record { place = e .place; event = e .event; transfers = e .transfers; losses = e .losses })
+    (found _ _ _ _ _ _ _ _ _ _ _ _ _ _ P _ _ _ _ _ _ _ _ _ last on up (e .score), e .genes)
 
 pub run-spec : {M : Type 1} → statement M
 run-spec = tie.close (tie.spec components-requires reported-marks-requires parents-requires evaluate-requires returns)
