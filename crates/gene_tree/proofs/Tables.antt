@@ -20,8 +20,8 @@ module _ (m : ℕ) (parent : List ℕ) where
   unfolding firstChildren leftTable leftOf
   left-is = refl
 
-  pub right-is : (left right : List ℕ) → m ≤ 127 → left ≡ firstChildren m parent → right ≡ secondChildren m parent left → right ≡ rightTable m parent
-  unfolding firstChildren secondChildren rightTable rightOf leftOf
+  pub right-is : (left right : List ℕ) → m ≤ 127 → left ≡ leftTable m parent → right ≡ secondChildren m parent left → right ≡ rightTable m parent
+  unfolding leftTable secondChildren rightTable rightOf leftOf
   right-is left right few el er = er ∙ rw el (filled-same m zeros _ _ (λ g l u. ap (λ (a : ℕ). next m parent a g) (filled-in m zeros (λ v. next m parent 0 v) g l u (omega (arith, zeros-long)))))
 
   count-at : (g : ℕ) → m ≤ 127 → 1 ≤ g → g ≤ m → at (childCounts m parent) g ≡ childCount m parent g

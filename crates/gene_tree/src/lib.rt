@@ -2,6 +2,7 @@
 ghost use mathlib.Core.Path.{_≡_};
 ghost use mathlib.Core.Bool.{_&&_};
 ghost use Prim.Native.Nat.{_≤_};
+ghost use Rattle.finite.specs.Tables.{zeros};
 ghost use Rattle.tables.specs.Children.{firstChildren, childCounts};
 ghost use Rattle.gene_tree.specs.Refusals.{isNext, next, parentFits, childrenFit, treeFits, bearer, speciesFits, seatsFit, geneVerdict};
 ghost use Rattle.gene_tree.specs.Genes.{leftTable, rightTable, leafTable, leafOf};
@@ -116,7 +117,8 @@ fn seats_fit(
     requires { ⌜ (n ≤ 127) × (m ≤ 127) × (now counts ≡ childCounts m (now parent)) ⌝ }
     ensures { λ r. ⌜ r ≡ seatsFit n m (now (parent .entry)) (now (species .entry)) (now (borne .entry)) ⌝ }
 {
-    let bearers = tables::first_children(n, borne);
+    let mut bearers = [0u32; 128];
+    tables::first_children(n, borne, &mut bearers);
     let mut g: usize = 0;
     while g < m {
         let w = g + 1;
@@ -139,7 +141,8 @@ pub fn verdict(
     requires { ⌜ (n ≤ 127) × (m ≤ 127) ⌝ }
     ensures { λ r. ⌜ r ≡ geneVerdict n m (now (parent .entry)) (now (species .entry)) (now (borne .entry)) ⌝ }
 {
-    let counts = tables::child_counts(m, parent);
+    let mut counts = [0u32; 128];
+    tables::child_counts(m, parent, &mut counts);
     if !tree_fits(m, parent, &counts) {
         return 12;
     }
@@ -150,20 +153,19 @@ pub fn verdict(
 }
 
 // Each gene's lowest-numbered child, 0 for a leaf gene.
-pub fn left_children(m: usize, parent: &[u32; 128]) -> [u32; 128]
-    requires { ⌜ m ≤ 127 ⌝ }
-    ensures { λ r. ⌜ r ≡ leftTable m (now (parent .entry)) ⌝ }
+pub fn left_children(m: usize, parent: &[u32; 128], out: &mut [u32; 128])
+    requires { ⌜ (m ≤ 127) × (now out ≡ zeros) ⌝ }
+    ensures { λ _. ⌜ now (out .exit) ≡ leftTable m (now (parent .entry)) ⌝ }
 {
-    tables::first_children(m, parent)
+    tables::first_children(m, parent, out);
 }
 
-// Each gene's other child, 0 for a leaf gene.
-pub fn right_children(m: usize, parent: &[u32; 128]) -> [u32; 128]
-    requires { ⌜ m ≤ 127 ⌝ }
-    ensures { λ r. ⌜ r ≡ rightTable m (now (parent .entry)) ⌝ }
+// Each gene's other child, 0 for a leaf gene, by the table of the lowest-numbered ones.
+pub fn right_children(m: usize, parent: &[u32; 128], left: &[u32; 128], out: &mut [u32; 128])
+    requires { ⌜ (m ≤ 127) × (now left ≡ leftTable m (now parent)) × (now out ≡ zeros) ⌝ }
+    ensures { λ _. ⌜ now (out .exit) ≡ rightTable m (now (parent .entry)) ⌝ }
 {
-    let left = tables::first_children(m, parent);
-    tables::second_children(m, parent, &left)
+    tables::second_children(m, parent, left, out);
 }
 
 fn leaf_of(
@@ -180,17 +182,22 @@ fn leaf_of(
 }
 
 // The node at which each leaf gene sits, 0 for an inner gene.
-pub fn leaf_nodes(m: usize, species: &[u32; 128], n: usize, borne: &[u32; 128]) -> [u32; 128]
-    requires { ⌜ (n ≤ 127) × (m ≤ 127) ⌝ }
-    ensures { λ r. ⌜ r ≡ leafTable n m (now (species .entry)) (now (borne .entry)) ⌝ }
+pub fn leaf_nodes(
+    m: usize,
+    species: &[u32; 128],
+    n: usize,
+    borne: &[u32; 128],
+    out: &mut [u32; 128],
+)
+    requires { ⌜ (n ≤ 127) × (m ≤ 127) × (now out ≡ zeros) ⌝ }
+    ensures { λ _. ⌜ now (out .exit) ≡ leafTable n m (now (species .entry)) (now (borne .entry)) ⌝ }
 {
-    let bearers = tables::first_children(n, borne);
-    let mut out = [0u32; 128];
+    let mut bearers = [0u32; 128];
+    tables::first_children(n, borne, &mut bearers);
     let mut g: usize = 0;
     while g < m {
         let w = g + 1;
         out[w] = leaf_of(n, species, borne, &bearers, w);
         g = w;
     }
-    out
 }

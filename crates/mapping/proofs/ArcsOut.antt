@@ -5,7 +5,7 @@ use mathlib.Core.Logic.{_≢_}
 use mathlib.Core.List.{List}
 use Prim.Native.Nat.{ℕ, _+_, _≤_}
 use native.Mathlib.Omega.{arith}
-use lib.ListN.{length, set, length-set, replicate, length-replicate, getD-replicate, List·getD-eq-default}
+use lib.ListN.{length, set, length-set, List·getD-eq-default}
 use lib.Seq.{getD-set-same, getD-set-other}
 use Rattle.finite.specs.Range.{sum}
 use Rattle.finite.specs.Tables.{at}
@@ -15,7 +15,7 @@ use Rattle.finite.proofs.Sum.{sum-more, sum-bound, sum-zero-range}
 use Rattle.finite.proofs.Tables.{filled-ext}
 use Rattle.gene_tree.specs.Genes.{zeros}
 use Rattle.gene_tree.proofs.Genes.{zeros-at, zeros-long}
-use Rattle.mapping.specs.Switched.{weighs, leavingFrom, leavingTable, ones}
+use Rattle.mapping.specs.Switched.{weighs, leavingFrom, leavingTable}
 
 pub record Summed (up weight : List ℕ) (v : ℕ) (out : List ℕ) : Type 0 where
   pub long : length out ≡ 128
@@ -63,12 +63,3 @@ module _ (up weight : List ℕ) where
       (getD-set-same out 0 0 0 (omega (arith, s .long)) ∙ sym (zeros-at 0))
 
 pub ruleset leave-loop = (leave-start, leave-turn, leave-done)
-
--- each arc counts 1
-pub ones-le : (v : ℕ) → at ones v ≤ 1
-unfolding ones
-ones-le v = byLess v 128 (λ l. omega (arith, getD-replicate {A = ℕ} 128 v 1 0 l)) (λ l. omega (arith, List·getD-eq-default {A = ℕ} (replicate 128 1) 0 {n = v} (omega (arith, length-replicate {A = ℕ} 128 1))))
-
-pub ones-at : (v : ℕ) → v ≤ 127 → at ones v ≡ 1
-unfolding ones
-ones-at v l = getD-replicate {A = ℕ} 128 v 1 0 (omega arith)

@@ -31,7 +31,7 @@ use Rattle.mapping.specs.Score.{costsOf, Cheap}
 use Rattle.mapping.specs.Charges.{weightTable, Weights, pairBy, Skipped, Meeting, wayCharge, pairCharge, chargeAt, Paired, ChargedHere}
 use Rattle.mapping.specs.declared.UnitCosts.{UnitCosts}
 use Rattle.mapping.proofs.Adding.{times}
-use Rattle.mapping.proofs.Climbs.{on-low, below-lower}
+use Rattle.mapping.proofs.Climbs.{on-low}
 use Rattle.mapping.proofs.Meeting.{way-go, way-none}
 use Rattle.mapping.proofs.Mapped.{held-in, held-low, fork-low, place-at, event-at-table, way-below, transfers-held, losses-held}
 use Rattle.mapping.proofs.Placing.{PlacedFrom, kin-held}
@@ -199,11 +199,13 @@ module _ (n : ℕ) (up on height : List ℕ) (T : Switched n up on height) (u : 
     unfolding switchedOf
     pair-right-low = pair-right-below .lower .low
 
-    pub pair-left-in : x ≤ 127
-    pair-left-in = below-lower n up on height T (lca Z taken x y) x pair-left-below
+    pub pair-left-in : x ≤ n
+    unfolding switchedOf
+    pair-left-in = pair-left-below .lower .high
 
-    pub pair-right-in : y ≤ 127
-    pair-right-in = below-lower n up on height T (lca Z taken x y) y pair-right-below
+    pub pair-right-in : y ≤ n
+    unfolding switchedOf
+    pair-right-in = pair-right-below .lower .high
 
     module _ (f w : List ℕ) (ef : f ≡ forksTable n up) (ew : w ≡ weightTable n u on f) where
       pub pair-weights : Weights w

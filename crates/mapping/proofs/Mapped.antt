@@ -14,6 +14,7 @@ use Rattle.finite.proofs.Cases.{byBool, byEq, byLess, clash}
 use Rattle.finite.proofs.Tests.{is-same, not-same, tally-le}
 use Rattle.finite.proofs.Sum.{sum-same, sum-zero, sum-at}
 use Rattle.finite.proofs.Tables.{filled-in, filled-out, filled-zero}
+use Rattle.tables.specs.Children.{childCounts}
 use Rattle.topology.specs.Climbing.{along}
 use Rattle.topology.specs.Networks.{Network, Node}
 use Rattle.topology.specs.Switchings.{parent, onSecondary, onArcs}
@@ -26,10 +27,10 @@ use Rattle.reconciliation.proofs.Ways.{along-sum}
 use Rattle.reconciliation.proofs.Bounds.{transfers-le, losses-le}
 use Rattle.gene_tree.specs.Genes.{zeros}
 use Rattle.gene_tree.proofs.Genes.{zeros-at, zeros-long}
-use Rattle.mapping.specs.Switched.{switchedOf, taken, Switched, Below, weighs, leavingFrom, leavingTable, ones, forkMark, forkTable, forksTable}
+use Rattle.mapping.specs.Switched.{switchedOf, taken, Switched, Below, weighs, leavingFrom, leavingTable, forkMark, forkTable, forksTable}
 use Rattle.mapping.specs.Genes.{genesOf, Family, Coming, childHere, eventFrom, eventAt, leavesFrom, wayOf, betweenOf, transfersAt, lossesFrom, lossesAt, placeTable, eventTable, transferTable, lossTable}
 use Rattle.mapping.proofs.Climbs.{parent-is, below-up}
-use Rattle.mapping.proofs.ArcsOut.{ones-at, hit, miss}
+use Rattle.mapping.proofs.ArcsOut.{hit, miss}
 
 -- a table filled from zeros holds f at 1..k and 0 elsewhere, so it holds what f is bounded by
 pub held-in : (k : ℕ) (f : ℕ → ℕ) → k ≤ 127 → (v : ℕ) → 1 ≤ v → v ≤ k → at (filled k zeros f) v ≡ f v
@@ -40,11 +41,11 @@ held-low k b f few h v = byEq v 0 (λ e. rw e (omega (arith, filled-zero k zeros
     (λ d. byLess k v (λ l. omega (arith, filled-out k zeros f v l, zeros-at v)) (λ l. omega (arith, held-in k f few v (omega arith) l, h v (omega arith) l)))
 
 -- a node's mark, by how many on arcs it has
-pub fork-here : (arcs : List ℕ) (v r : ℕ) → 1 ≤ v → v ≤ 127 → r ≡ tally (same (at arcs v) 2) → r ≡ at (forkTable arcs) v
+pub fork-here : (n : ℕ) (arcs : List ℕ) (v r : ℕ) → n ≤ 127 → 1 ≤ v → v ≤ n → r ≡ tally (same (at arcs v) 2) → r ≡ at (forkTable n arcs) v
 unfolding forkTable forkMark
-fork-here arcs v r l u q = q ∙ sym (held-in 127 (forkMark arcs) (omega arith) v l u)
+fork-here n arcs v r few l u q = q ∙ sym (held-in n (forkMark arcs) few v l u)
 
-pub forks-told : (n : ℕ) (up arcs : List ℕ) → arcs ≡ leavingTable n up ones → forkTable arcs ≡ forksTable n up
+pub forks-told : (n : ℕ) (up arcs : List ℕ) → arcs ≡ childCounts n up → forkTable n arcs ≡ forksTable n up
 unfolding forksTable
 forks-told n up arcs e = rw e
 
@@ -81,17 +82,17 @@ module _ (n : ℕ) (up on height : List ℕ) (T : Switched n up on height) where
   N = switchedOf n up on height
 
   -- the on arcs out of a node are counted
-  arcs-at : (v : ℕ) → 1 ≤ v → v ≤ 127 → at (leavingTable n up ones) v ≡ onArcs N taken v
-  unfolding leavingTable leavingFrom weighs onArcs children count switchedOf
-  arcs-at v l u = held-in 127 (leavingFrom n up ones) (omega arith) v l u ∙ sum-same n _ _ (λ x a b. rw (parent-is n up on height x, ones-at x (omega (arith, T .few))))
+  arcs-at : (v : ℕ) → 1 ≤ v → v ≤ n → at (childCounts n up) v ≡ onArcs N taken v
+  unfolding childCounts onArcs children count switchedOf
+  arcs-at v l u = held-in n (children n (at up)) (T .few) v l u ∙ sum-same n _ _ (λ x a b. rw (parent-is n up on height x))
 
-  pub fork-at : (v : ℕ) → 1 ≤ v → v ≤ 127 → at (forksTable n up) v ≡ tally (forks N taken v)
+  pub fork-at : (v : ℕ) → 1 ≤ v → v ≤ n → at (forksTable n up) v ≡ tally (forks N taken v)
   unfolding forksTable forkTable forkMark forks
-  fork-at v l u = held-in 127 (forkMark (leavingTable n up ones)) (omega arith) v l u ∙ rw (arcs-at v l u)
+  fork-at v l u = held-in n (forkMark (childCounts n up)) (T .few) v l u ∙ rw (arcs-at v l u)
 
   pub fork-low : (v : ℕ) → at (forksTable n up) v ≤ 1
   unfolding forksTable forkTable forkMark
-  fork-low = held-low 127 1 (forkMark (leavingTable n up ones)) (omega arith) (λ v _ _. tally-le (same (at (leavingTable n up ones) v) 2))
+  fork-low = held-low n 1 (forkMark (childCounts n up)) (T .few) (λ v _ _. tally-le (same (at (childCounts n up) v) 2))
 
   -- an on secondary arc leaves a node where its entry is not 0
   sent-yes : (v : ℕ) → v ≢ 0 → SendsSecondary N taken v → leavingFrom n up on v ≢ 0
@@ -195,7 +196,7 @@ module _ (n : ℕ) (up on height : List ℕ) (m : ℕ) (left right leaf mother :
   unfolding wayOf switchedOf
   forks-way b x B =
       along-sum M (T .sound) taken (at (forksTable n up)) b (B .upper) x (B .lower) (B .over)
-      ∙ sum-same n _ _ (λ v l u. rw (fork-at n up on height T v l (omega (arith, T .few))))
+      ∙ sum-same n _ _ (λ v l u. rw (fork-at n up on height T v l u))
       ∙ sym (along-sum M (T .sound) taken (λ v. tally (forks M taken v)) b (B .upper) x (B .lower) (B .over))
 
   between-held : (b x : ℕ) → Below n up on height b x → betweenOf n up on height (forksTable n up) b x

@@ -6,10 +6,10 @@ use mathlib.Core.Path.{_≡_}
 use mathlib.Core.Bool.{true, cond}
 use mathlib.Core.List.{List}
 use Prim.Native.Nat.{ℕ, _-_, _≤_, _<_}
-use lib.ListN.{replicate}
 use Rattle.finite.specs.Tests.{same, tally}
 use Rattle.finite.specs.Range.{sum}
 use Rattle.finite.specs.Tables.{at, filled}
+use Rattle.tables.specs.Children.{childCounts}
 use Rattle.topology.specs.Networks.{Network, Node, Sound}
 use Rattle.topology.specs.Switchings.{Switching, onSecondary, parent, above}
 use Rattle.topology.specs.Switchings as S
@@ -65,13 +65,9 @@ leavingTable n up weight = filled 127 zeros (leavingFrom n up weight)
 unfoldable pub forkMark : List ℕ → ℕ → ℕ
 forkMark arcs v = tally (same (at arcs v) 2)
 
-unfoldable pub forkTable : List ℕ → List ℕ
-forkTable arcs = filled 127 zeros (forkMark arcs)
-
--- each arc counts 1
-unfoldable pub ones : List ℕ
-ones = replicate 128 1
+unfoldable pub forkTable : ℕ → List ℕ → List ℕ
+forkTable n arcs = filled n zeros (forkMark arcs)
 
 -- the nodes that charge a loss: those with two on arcs
 unfoldable pub forksTable : ℕ → List ℕ → List ℕ
-forksTable n up = forkTable (leavingTable n up ones)
+forksTable n up = forkTable n (childCounts n up)

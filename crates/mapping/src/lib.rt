@@ -5,13 +5,14 @@ ghost use mathlib.Core.Path.{_≡_};
 ghost use mathlib.Core.Logic.{_≢_};
 ghost use Prim.Native.Nat.{ℕ, _+_, _-_, _≤_, _<_};
 ghost use Rattle.finite.specs.Tests.{same, tally};
-ghost use Rattle.finite.specs.Tables.{at};
+ghost use Rattle.finite.specs.Tables.{at, zeros};
+ghost use Rattle.tables.specs.Children.{childCounts};
 ghost use Rattle.topology.specs.Switchings.{lca};
-ghost use Rattle.mapping.specs.Switched.{switchedOf, taken, Switched, Below, leavingTable, forkTable, ones, forksTable};
+ghost use Rattle.mapping.specs.Switched.{switchedOf, taken, Switched, Below, leavingTable, forkTable, forksTable};
 ghost use Rattle.mapping.specs.Settings.{bitOf, markFrom, markTable, Numbered, upFrom, upTable};
 ghost use Rattle.mapping.specs.Genes.{genesOf, Family, Kin, Ready, Coming, placeAt, childHere, eventFrom, eventAt, leavesFrom, wayOf, betweenOf, lossesFrom, transfersAt, lossesAt, placeTable, eventTable, transferTable, lossTable};
 ghost use Rattle.mapping.specs.Score.{Cheap, Room, chargedBy, costsOf, scoreOf};
-ghost use Rattle.mapping.specs.Evaluated.{Evaluated};
+ghost use Rattle.mapping.specs.Evaluated.{Tabled};
 ghost use Rattle.mapping.specs.Charges.{weightTable, Weights, Meeting, Paired, ChargedHere, pairBy, Skipped};
 ghost use Rattle.reconciliation.specs.Mapping.{lcaCost};
 
@@ -52,19 +53,18 @@ pub fn setting_marks(
     index: &[u32; 128],
     c: usize,
     x: u32,
-) -> [u32; 128]
-    requires { ⌜ (n ≤ 127) × Numbered n c (now secondary) (now top) (now members) (now index) ⌝ }
-    ensures { λ r. ⌜ r ≡ markTable n x (at (now (members .entry)) c) c (now (secondary .entry)) (now (top .entry)) (now (index .entry)) ⌝ }
+    out: &mut [u32; 128],
+)
+    requires { ⌜ (n ≤ 127) × Numbered n c (now secondary) (now top) (now members) (now index) × (now out ≡ zeros) ⌝ }
+    ensures { λ _. ⌜ now (out .exit) ≡ markTable n x (at (now (members .entry)) c) c (now (secondary .entry)) (now (top .entry)) (now (index .entry)) ⌝ }
 {
     let k = members[c];
-    let mut out = [0u32; 128];
     let mut v: usize = 0;
     while v < n {
         let w = v + 1;
         out[w] = mark_of(x, k, c, secondary[w], top[w], index[w]);
         v = w;
     }
-    out
 }
 
 fn up_of(p: u32, s: u32, mark: u32) -> u32
@@ -82,26 +82,24 @@ pub fn parents(
     principal: &[u32; 128],
     secondary: &[u32; 128],
     on: &[u32; 128],
-) -> [u32; 128]
-    requires { ⌜ n ≤ 127 ⌝ }
-    ensures { λ r. ⌜ r ≡ upTable n (now (principal .entry)) (now (secondary .entry)) (now (on .entry)) ⌝ }
+    out: &mut [u32; 128],
+)
+    requires { ⌜ (n ≤ 127) × (now out ≡ zeros) ⌝ }
+    ensures { λ _. ⌜ now (out .exit) ≡ upTable n (now (principal .entry)) (now (secondary .entry)) (now (on .entry)) ⌝ }
 {
-    let mut out = [0u32; 128];
     let mut v: usize = 0;
     while v < n {
         let w = v + 1;
         out[w] = up_of(principal[w], secondary[w], on[w]);
         v = w;
     }
-    out
 }
 
 // For each node, the sum of the weights, each 0 or 1, of the on arcs that leave it.
-pub fn leaving(n: usize, up: &[u32; 128], weight: &[u32; 128]) -> [u32; 128]
-    requires { ⌜ (n ≤ 127) × ((v : ℕ) → at (now up) v ≤ 127) × ((v : ℕ) → at (now weight) v ≤ 1) ⌝ }
-    ensures { λ r. ⌜ r ≡ leavingTable n (now (up .entry)) (now (weight .entry)) ⌝ }
+fn leaving(n: usize, up: &[u32; 128], weight: &[u32; 128], out: &mut [u32; 128])
+    requires { ⌜ (n ≤ 127) × ((v : ℕ) → at (now up) v ≤ 127) × ((v : ℕ) → at (now weight) v ≤ 1) × (now out ≡ zeros) ⌝ }
+    ensures { λ _. ⌜ now (out .exit) ≡ leavingTable n (now (up .entry)) (now (weight .entry)) ⌝ }
 {
-    let mut out = [0u32; 128];
     let mut v: usize = 0;
     while v < n {
         let w = v + 1;
@@ -110,7 +108,6 @@ pub fn leaving(n: usize, up: &[u32; 128], weight: &[u32; 128]) -> [u32; 128]
         v = w;
     }
     out[0] = 0;
-    out
 }
 
 // 1 where a node has two on arcs: the nodes that charge a loss when a gene passes them.
@@ -123,35 +120,26 @@ fn fork_mark(arcs: u32) -> u32
     0
 }
 
-pub fn fork_marks(arcs: &[u32; 128]) -> [u32; 128]
-    ensures { λ r. ⌜ r ≡ forkTable (now (arcs .entry)) ⌝ }
+fn fork_marks(n: usize, arcs: &[u32; 128], out: &mut [u32; 128])
+    requires { ⌜ (n ≤ 127) × (now out ≡ zeros) ⌝ }
+    ensures { λ _. ⌜ now (out .exit) ≡ forkTable n (now (arcs .entry)) ⌝ }
 {
-    let mut out = [0u32; 128];
     let mut v: usize = 0;
-    while v < 127 {
+    while v < n {
         let w = v + 1;
         out[w] = fork_mark(arcs[w]);
         v = w;
     }
-    out
-}
-
-// How many on arcs leave each node.
-fn arcs_on(n: usize, up: &[u32; 128]) -> [u32; 128]
-    requires { ⌜ (n ≤ 127) × ((v : ℕ) → at (now up) v ≤ 127) ⌝ }
-    ensures { λ r. ⌜ r ≡ leavingTable n (now (up .entry)) ones ⌝ }
-{
-    let one = [1u32; 128];
-    leaving(n, up, &one)
 }
 
 // The nodes with two on arcs.
-pub fn forks(n: usize, up: &[u32; 128]) -> [u32; 128]
-    requires { ⌜ (n ≤ 127) × ((v : ℕ) → at (now up) v ≤ 127) ⌝ }
-    ensures { λ r. ⌜ r ≡ forksTable n (now (up .entry)) ⌝ }
+fn forks(n: usize, up: &[u32; 128], out: &mut [u32; 128])
+    requires { ⌜ (n ≤ 127) × (now out ≡ zeros) ⌝ }
+    ensures { λ _. ⌜ now (out .exit) ≡ forksTable n (now (up .entry)) ⌝ }
 {
-    let arcs = arcs_on(n, up);
-    fork_marks(&arcs)
+    let mut arcs = [0u32; 128];
+    tables::child_counts(n, up, &mut arcs);
+    fork_marks(n, &arcs, out);
 }
 
 // The lowest node from which x and y are reached along on arcs: the one that stands lower climbs.
@@ -248,7 +236,7 @@ fn place_of(
 }
 
 // The place of each gene, children before their parents.
-pub fn places(
+fn places(
     n: usize,
     up: &[u32; 128],
     on: &[u32; 128],
@@ -258,19 +246,18 @@ pub fn places(
     right: &[u32; 128],
     leaf: &[u32; 128],
     mother: &[u32; 128],
-) -> [u32; 128]
+    out: &mut [u32; 128],
+)
     requires { ⌜ Switched n (now up) (now on) (now height) ⌝ }
-    requires { ⌜ Family (switchedOf n (now up) (now on) (now height)) m (now left) (now right) (now leaf) (now mother) ⌝ }
-    ensures { λ r. ⌜ r ≡ placeTable n (now (up .entry)) (now (on .entry)) (now (height .entry)) m (now (left .entry)) (now (right .entry)) (now (leaf .entry)) (now (mother .entry)) ⌝ }
+    requires { ⌜ Family (switchedOf n (now up) (now on) (now height)) m (now left) (now right) (now leaf) (now mother) × (now out ≡ zeros) ⌝ }
+    ensures { λ _. ⌜ now (out .exit) ≡ placeTable n (now (up .entry)) (now (on .entry)) (now (height .entry)) m (now (left .entry)) (now (right .entry)) (now (leaf .entry)) (now (mother .entry)) ⌝ }
 {
-    let mut out = [0u32; 128];
     let mut g = m;
     while 0 < g {
-        let p = place_of(n, up, on, height, left, right, leaf, &out, g);
+        let p = place_of(n, up, on, height, left, right, leaf, out, g);
         out[g] = p;
         g -= 1;
     }
-    out
 }
 
 // 1 where a child of a gene at p, the children at pl and pr, sits where the gene sits, else 0.
@@ -320,7 +307,7 @@ fn event_at(
 }
 
 // The event of each gene, from the places and from how many on secondary arcs leave each node.
-pub fn events(
+fn events(
     n: usize,
     up: &[u32; 128],
     on: &[u32; 128],
@@ -332,20 +319,19 @@ pub fn events(
     mother: &[u32; 128],
     place: &[u32; 128],
     sent: &[u32; 128],
-) -> [u32; 128]
+    out: &mut [u32; 128],
+)
     requires { ⌜ Switched n (now up) (now on) (now height) ⌝ }
     requires { ⌜ Family (switchedOf n (now up) (now on) (now height)) m (now left) (now right) (now leaf) (now mother) ⌝ }
-    requires { ⌜ (now place ≡ placeTable n (now up) (now on) (now height) m (now left) (now right) (now leaf) (now mother)) × (now sent ≡ leavingTable n (now up) (now on)) ⌝ }
-    ensures { λ r. ⌜ r ≡ eventTable n (now (up .entry)) (now (on .entry)) (now (height .entry)) m (now (left .entry)) (now (right .entry)) (now (leaf .entry)) (now (mother .entry)) ⌝ }
+    requires { ⌜ (now place ≡ placeTable n (now up) (now on) (now height) m (now left) (now right) (now leaf) (now mother)) × (now sent ≡ leavingTable n (now up) (now on)) × (now out ≡ zeros) ⌝ }
+    ensures { λ _. ⌜ now (out .exit) ≡ eventTable n (now (up .entry)) (now (on .entry)) (now (height .entry)) m (now (left .entry)) (now (right .entry)) (now (leaf .entry)) (now (mother .entry)) ⌝ }
 {
-    let mut out = [0u32; 128];
     let mut g: usize = 0;
     while g < m {
         let w = g + 1;
         out[w] = event_at(left, right, place, sent, w);
         g = w;
     }
-    out
 }
 
 // The transfers on the way of gene g: the on secondary arcs from its parent gene's place.
@@ -433,7 +419,7 @@ fn losses_of(
 }
 
 // The transfers of each gene, from the places.
-pub fn transfers(
+fn transfers(
     n: usize,
     up: &[u32; 128],
     on: &[u32; 128],
@@ -444,24 +430,23 @@ pub fn transfers(
     leaf: &[u32; 128],
     mother: &[u32; 128],
     place: &[u32; 128],
-) -> [u32; 128]
+    out: &mut [u32; 128],
+)
     requires { ⌜ Switched n (now up) (now on) (now height) ⌝ }
     requires { ⌜ Family (switchedOf n (now up) (now on) (now height)) m (now left) (now right) (now leaf) (now mother) ⌝ }
-    requires { ⌜ now place ≡ placeTable n (now up) (now on) (now height) m (now left) (now right) (now leaf) (now mother) ⌝ }
-    ensures { λ r. ⌜ r ≡ transferTable n (now (up .entry)) (now (on .entry)) (now (height .entry)) m (now (left .entry)) (now (right .entry)) (now (leaf .entry)) (now (mother .entry)) ⌝ }
+    requires { ⌜ (now place ≡ placeTable n (now up) (now on) (now height) m (now left) (now right) (now leaf) (now mother)) × (now out ≡ zeros) ⌝ }
+    ensures { λ _. ⌜ now (out .exit) ≡ transferTable n (now (up .entry)) (now (on .entry)) (now (height .entry)) m (now (left .entry)) (now (right .entry)) (now (leaf .entry)) (now (mother .entry)) ⌝ }
 {
-    let mut out = [0u32; 128];
     let mut g: usize = 0;
     while g < m {
         let w = g + 1;
         out[w] = transfers_of(n, up, on, height, mother, place, w);
         g = w;
     }
-    out
 }
 
 // The losses of each gene, from the places, the events and the nodes with two on arcs.
-pub fn losses(
+fn losses(
     n: usize,
     up: &[u32; 128],
     on: &[u32; 128],
@@ -474,20 +459,19 @@ pub fn losses(
     forks: &[u32; 128],
     place: &[u32; 128],
     event: &[u32; 128],
-) -> [u32; 128]
+    out: &mut [u32; 128],
+)
     requires { ⌜ Switched n (now up) (now on) (now height) ⌝ }
     requires { ⌜ Family (switchedOf n (now up) (now on) (now height)) m (now left) (now right) (now leaf) (now mother) ⌝ }
-    requires { ⌜ (now forks ≡ forksTable n (now up)) × (now place ≡ placeTable n (now up) (now on) (now height) m (now left) (now right) (now leaf) (now mother)) × (now event ≡ eventTable n (now up) (now on) (now height) m (now left) (now right) (now leaf) (now mother)) ⌝ }
-    ensures { λ r. ⌜ r ≡ lossTable n (now (up .entry)) (now (on .entry)) (now (height .entry)) m (now (left .entry)) (now (right .entry)) (now (leaf .entry)) (now (mother .entry)) ⌝ }
+    requires { ⌜ (now forks ≡ forksTable n (now up)) × (now place ≡ placeTable n (now up) (now on) (now height) m (now left) (now right) (now leaf) (now mother)) × (now event ≡ eventTable n (now up) (now on) (now height) m (now left) (now right) (now leaf) (now mother)) × (now out ≡ zeros) ⌝ }
+    ensures { λ _. ⌜ now (out .exit) ≡ lossTable n (now (up .entry)) (now (on .entry)) (now (height .entry)) m (now (left .entry)) (now (right .entry)) (now (leaf .entry)) (now (mother .entry)) ⌝ }
 {
-    let mut out = [0u32; 128];
     let mut g: usize = 0;
     while g < m {
         let w = g + 1;
         out[w] = losses_of(n, up, on, height, forks, mother, place, event, w);
         g = w;
     }
-    out
 }
 
 // What a duplication, a transfer and a loss cost.
@@ -560,16 +544,7 @@ fn totals(
     s
 }
 
-// What the LCA mapping gives each gene, and the score of the gene tree.
-pub struct Reconciled {
-    pub place: [u32; 128],
-    pub event: [u32; 128],
-    pub transfers: [u32; 128],
-    pub losses: [u32; 128],
-    pub score: Score,
-}
-
-// The genes and the score under the switching.
+// The genes and the score under the switching, the genes in four tables lent as zeros.
 pub fn evaluate(
     n: usize,
     up: &[u32; 128],
@@ -581,16 +556,23 @@ pub fn evaluate(
     leaf: &[u32; 128],
     mother: &[u32; 128],
     u: UnitCosts,
-) -> Reconciled
+    place: &mut [u32; 128],
+    event: &mut [u32; 128],
+    moved: &mut [u32; 128],
+    lost: &mut [u32; 128],
+) -> Score
     requires { ⌜ Switched n (now up) (now on) (now height) ⌝ }
     requires { ⌜ Family (switchedOf n (now up) (now on) (now height)) m (now left) (now right) (now leaf) (now mother) ⌝ }
-    requires { ⌜ Cheap u ⌝ }
-    ensures { λ r. ⌜ Evaluated n (now (up .entry)) (now (on .entry)) (now (height .entry)) m (now (left .entry)) (now (right .entry)) (now (leaf .entry)) (now (mother .entry)) u r ⌝ }
+    requires { ⌜ Cheap u × (now place ≡ zeros) × (now event ≡ zeros) × (now moved ≡ zeros) × (now lost ≡ zeros) ⌝ }
+    ensures { λ r. ⌜ r ≡ scoreOf (switchedOf n (now (up .entry)) (now (on .entry)) (now (height .entry))) (genesOf m (now (left .entry)) (now (right .entry)) (now (leaf .entry)) (now (mother .entry))) u taken ⌝ }
+    ensures { λ _. ⌜ Tabled n (now (up .entry)) (now (on .entry)) (now (height .entry)) m (now (left .entry)) (now (right .entry)) (now (leaf .entry)) (now (mother .entry)) (now (place .exit)) (now (event .exit)) (now (moved .exit)) (now (lost .exit)) ⌝ }
 {
-    let sent = leaving(n, up, on);
-    let fork = forks(n, up);
-    let place = places(n, up, on, height, m, left, right, leaf, mother);
-    let event = events(
+    let mut sent = [0u32; 128];
+    leaving(n, up, on, &mut sent);
+    let mut fork = [0u32; 128];
+    forks(n, up, &mut fork);
+    places(n, up, on, height, m, left, right, leaf, mother, place);
+    events(
         n,
         up,
         on,
@@ -600,11 +582,24 @@ pub fn evaluate(
         right,
         leaf,
         mother,
-        &place,
+        place,
         &sent,
+        event,
     );
-    let moved = transfers(n, up, on, height, m, left, right, leaf, mother, &place);
-    let lost = losses(
+    transfers(
+        n,
+        up,
+        on,
+        height,
+        m,
+        left,
+        right,
+        leaf,
+        mother,
+        place,
+        moved,
+    );
+    losses(
         n,
         up,
         on,
@@ -615,10 +610,11 @@ pub fn evaluate(
         leaf,
         mother,
         &fork,
-        &place,
-        &event,
+        place,
+        event,
+        lost,
     );
-    let score = totals(
+    totals(
         n,
         up,
         on,
@@ -628,33 +624,24 @@ pub fn evaluate(
         right,
         leaf,
         mother,
-        &event,
-        &moved,
-        &lost,
+        event,
+        moved,
+        lost,
         u,
-    );
-    Reconciled {
-        place: place,
-        event: event,
-        transfers: moved,
-        losses: lost,
-        score: score,
-    }
+    )
 }
 
 // What each node charges a gene that passes it: the transfer by which it is reached, and a loss where it has two on arcs.
-fn weights(n: usize, on: &[u32; 128], arcs: &[u32; 128], u: UnitCosts) -> [u32; 128]
-    requires { ⌜ (n ≤ 127) × Cheap u × ((v : ℕ) → at (now on) v ≤ 1) ⌝ }
-    ensures { λ r. ⌜ r ≡ weightTable n u (now (on .entry)) (forkTable (now (arcs .entry))) ⌝ }
+fn weights(n: usize, on: &[u32; 128], arcs: &[u32; 128], u: UnitCosts, out: &mut [u32; 128])
+    requires { ⌜ (n ≤ 127) × Cheap u × ((v : ℕ) → at (now on) v ≤ 1) × (now out ≡ zeros) ⌝ }
+    ensures { λ _. ⌜ now (out .exit) ≡ weightTable n u (now (on .entry)) (forkTable n (now (arcs .entry))) ⌝ }
 {
-    let mut out = [0u32; 128];
     let mut v: usize = 0;
     while v < n {
         let w = v + 1;
         out[w] = u.transfer * on[w] + u.loss * fork_mark(arcs[w]);
         v = w;
     }
-    out
 }
 
 // Where two climbers meet, and the weights of the nodes that they climbed from, the meeting node left out.
@@ -735,7 +722,7 @@ fn place_and_charge(
     g: usize,
 ) -> Met
     requires { ⌜ Switched n (now up) (now on) (now height) ⌝ }
-    requires { ⌜ Cheap u × (now arcs ≡ leavingTable n (now up) ones) × (now weight ≡ weightTable n u (now on) (forkTable (now arcs))) ⌝ }
+    requires { ⌜ Cheap u × (now arcs ≡ childCounts n (now up)) × (now weight ≡ weightTable n u (now on) (forkTable n (now arcs))) ⌝ }
     requires { ⌜ (g ≤ 127) × Paired n (now up) (now on) (now height) (now left) (now right) (now place) g ⌝ }
     ensures { λ r. ⌜ ChargedHere n (now (up .entry)) (now (on .entry)) (now (height .entry)) u (now (left .entry)) (now (right .entry)) (now (leaf .entry)) (now (place .entry)) g (r .node) (r .cost) ⌝ }
 {
@@ -776,8 +763,10 @@ pub fn cost(
     requires { ⌜ Cheap u ⌝ }
     ensures { λ r. ⌜ r ≡ lcaCost (switchedOf n (now (up .entry)) (now (on .entry)) (now (height .entry))) (genesOf m (now (left .entry)) (now (right .entry)) (now (leaf .entry)) (now (mother .entry))) (costsOf u) taken ⌝ }
 {
-    let arcs = arcs_on(n, up);
-    let weight = weights(n, on, &arcs, u);
+    let mut arcs = [0u32; 128];
+    tables::child_counts(n, up, &mut arcs);
+    let mut weight = [0u32; 128];
+    weights(n, on, &arcs, u, &mut weight);
     let mut place = [0u32; 128];
     let mut r: u32 = 0;
     let mut g = m;

@@ -78,10 +78,11 @@ fn show(
     requires { ⌜ Family (switchedOf n (now up) (now on) (now height)) m (now left) (now right) (now leaf) (now mother) ⌝ }
     requires { ⌜ Cheap u ⌝ }
 {
-    let sent = mapping::leaving(n, up, on);
-    let fork = mapping::forks(n, up);
-    let place = mapping::places(n, up, on, height, m, left, right, leaf, mother);
-    let event = mapping::events(
+    let mut place = [0u32; 128];
+    let mut event = [0u32; 128];
+    let mut moved = [0u32; 128];
+    let mut lost = [0u32; 128];
+    let score = mapping::evaluate(
         n,
         up,
         on,
@@ -91,27 +92,13 @@ fn show(
         right,
         leaf,
         mother,
-        &place,
-        &sent,
+        u,
+        &mut place,
+        &mut event,
+        &mut moved,
+        &mut lost,
     );
-    let transfers = mapping::transfers(n, up, on, height, m, left, right, leaf, mother, &place);
-    let losses = mapping::losses(
-        n,
-        up,
-        on,
-        height,
-        m,
-        left,
-        right,
-        leaf,
-        mother,
-        &fork,
-        &place,
-        &event,
-    );
-    gene_lines(m, &place, &event, &transfers, &losses);
-    let genes = mapping::evaluate(n, up, on, height, m, left, right, leaf, mother, u);
-    let score = genes.score;
+    gene_lines(m, &place, &event, &moved, &lost);
     score_line(score);
 }
 
@@ -133,9 +120,12 @@ fn genes_on(
     if gene_tree::verdict(m, parent, species, n, borne) != 0 {
         return;
     }
-    let left = gene_tree::left_children(m, parent);
-    let right = gene_tree::right_children(m, parent);
-    let leaf = gene_tree::leaf_nodes(m, species, n, borne);
+    let mut left = [0u32; 128];
+    gene_tree::left_children(m, parent, &mut left);
+    let mut right = [0u32; 128];
+    gene_tree::right_children(m, parent, &left, &mut right);
+    let mut leaf = [0u32; 128];
+    gene_tree::leaf_nodes(m, species, n, borne, &mut leaf);
     show(n, up, on, height, m, &left, &right, &leaf, parent, u);
 }
 

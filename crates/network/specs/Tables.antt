@@ -11,8 +11,8 @@ use Rattle.finite.specs.Tables.{at, zeros, filled}
 use Rattle.tables.specs.Children.{childCounts}
 use Rattle.topology.specs.Networks.{Network, Node, isReticulation}
 use Rattle.topology.specs.Switchings.{allPrincipal, above}
-use Rattle.topology.specs.Components.{isTop}
-use Rattle.topology.specs.Tables.{rankFrom}
+use Rattle.topology.specs.Components.{isTop, component}
+use Rattle.topology.specs.Tables.{networkOf, rankFrom}
 
 unfoldable pub table : ℕ → (ℕ → ℕ) → List ℕ
 table n f = filled n zeros f
@@ -83,6 +83,11 @@ earlierAt secondary tops c r q = memberAt secondary tops c q && under q r
 
 unfoldable pub indexFrom : ℕ → (secondary tops : List ℕ) → ℕ → ℕ
 indexFrom n secondary tops r = count n (earlierAt secondary tops (at tops r) r)
+
+-- the components as tables: the top of each node's, and how many reticulations each has (01, refusal 11)
+pub record Parted (n : ℕ) (principal secondary stamp tops members : List ℕ) : Type 0 where
+  pub top : tops ≡ table n (component (networkOf n principal secondary stamp))
+  pub held : members ≡ table n (membersFrom n secondary tops)
 
 -- component c has more than 8 members by their table
 unfoldable pub crowdedFrom : List ℕ → ℕ → Bool

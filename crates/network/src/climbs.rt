@@ -3,6 +3,7 @@ use super::counts::wide;
 ghost use mathlib.Core.Path.{_≡_};
 ghost use Prim.Native.Nat.{_+_, _≤_, _<_};
 ghost use lib.ListN.{length};
+ghost use Rattle.finite.specs.Tables.{zeros};
 ghost use Rattle.topology.specs.Networks.{Sound};
 ghost use Rattle.topology.specs.Components.{component};
 ghost use Rattle.topology.specs.Tables.{networkOf};
@@ -122,18 +123,17 @@ fn non_tops(
     principal: &[u32; 128],
     secondary: &[u32; 128],
     stamp: &[u32; 128],
-) -> [u32; 128]
-    requires { ⌜ n ≤ 127 ⌝ }
+    marks: &mut [u32; 128],
+)
+    requires { ⌜ (n ≤ 127) × (now marks ≡ zeros) ⌝ }
     requires { ⌜ Sound (networkOf n (now principal) (now secondary) (now stamp)) ⌝ }
-    ensures { λ r. ⌜ NonTops (networkOf n (now (principal .entry)) (now (secondary .entry)) (now (stamp .entry))) r ⌝ }
+    ensures { λ _. ⌜ NonTops (networkOf n (now (principal .entry)) (now (secondary .entry)) (now (stamp .entry))) (now (marks .exit)) ⌝ }
 {
-    let mut m = [0u32; 128];
     let mut v: usize = 0;
     while v < n {
-        mark_next(n, principal, secondary, stamp, &mut m, v);
+        mark_next(n, principal, secondary, stamp, marks, v);
         v += 1;
     }
-    m
 }
 
 // The top of v's component: the first node without a mark, going up principal arcs.
@@ -163,18 +163,18 @@ pub fn tops(
     principal: &[u32; 128],
     secondary: &[u32; 128],
     stamp: &[u32; 128],
-) -> [u32; 128]
-    requires { ⌜ n ≤ 127 ⌝ }
+    out: &mut [u32; 128],
+)
+    requires { ⌜ (n ≤ 127) × (now out ≡ zeros) ⌝ }
     requires { ⌜ Sound (networkOf n (now principal) (now secondary) (now stamp)) ⌝ }
-    ensures { λ r. ⌜ r ≡ table n (component (networkOf n (now (principal .entry)) (now (secondary .entry)) (now (stamp .entry)))) ⌝ }
+    ensures { λ _. ⌜ now (out .exit) ≡ table n (component (networkOf n (now (principal .entry)) (now (secondary .entry)) (now (stamp .entry)))) ⌝ }
 {
-    let marks = non_tops(n, principal, secondary, stamp);
-    let mut out = [0u32; 128];
+    let mut marks = [0u32; 128];
+    non_tops(n, principal, secondary, stamp, &mut marks);
     let mut v: usize = 0;
     while v < n {
         let w = v + 1;
         out[w] = top_of(n, principal, secondary, stamp, &marks, w);
         v = w;
     }
-    out
 }

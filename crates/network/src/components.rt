@@ -6,11 +6,12 @@ use super::counts::wide;
 ghost use mathlib.Core.Path.{_≡_};
 ghost use Prim.Native.Nat.{_+_, _≤_, _<_};
 ghost use Rattle.finite.specs.Range.{some};
+ghost use Rattle.finite.specs.Tables.{zeros};
 ghost use Rattle.tables.specs.Children.{Counted};
 ghost use Rattle.network.specs.Refusals.{refusal11};
 ghost use Rattle.topology.specs.Networks.{Sound};
 ghost use Rattle.topology.specs.Tables.{networkOf};
-ghost use Rattle.network.specs.Tables.{table, memberWith, memberAt, membersFrom, reticulationTopAt, earlierAt, indexFrom, crowdedFrom};
+ghost use Rattle.network.specs.Tables.{table, memberWith, memberAt, membersFrom, reticulationTopAt, earlierAt, indexFrom, crowdedFrom, Parted};
 
 fn member_with(s: u32, top: usize, c: usize) -> bool
     ensures { λ r. ⌜ r ≡ memberWith s top c ⌝ }
@@ -29,21 +30,22 @@ fn member_at(secondary: &[u32; 128], tops: &[u32; 128], c: usize, r: usize) -> b
 }
 
 // The top of each reticulation's component; 0 of another node.
-fn reticulation_tops(n: usize, secondary: &[u32; 128], tops: &[u32; 128]) -> [u32; 128]
-    requires { ⌜ n ≤ 127 ⌝ }
-    ensures { λ r. ⌜ r ≡ table n (reticulationTopAt (now (secondary .entry)) (now (tops .entry))) ⌝ }
+fn reticulation_tops(n: usize, secondary: &[u32; 128], tops: &[u32; 128], out: &mut [u32; 128])
+    requires { ⌜ (n ≤ 127) × (now out ≡ zeros) ⌝ }
+    ensures { λ _. ⌜ now (out .exit) ≡ table n (reticulationTopAt (now (secondary .entry)) (now (tops .entry))) ⌝ }
 {
     let none = [0u32; 128];
-    by_kind(n, secondary, &none, tops)
+    by_kind(n, secondary, &none, tops, out);
 }
 
 // How many reticulations each component has, at its top.
-pub fn members(n: usize, secondary: &[u32; 128], tops: &[u32; 128]) -> [u32; 128]
-    requires { ⌜ n ≤ 127 ⌝ }
-    ensures { λ r. ⌜ r ≡ table n (membersFrom n (now (secondary .entry)) (now (tops .entry))) ⌝ }
+pub fn members(n: usize, secondary: &[u32; 128], tops: &[u32; 128], out: &mut [u32; 128])
+    requires { ⌜ (n ≤ 127) × (now out ≡ zeros) ⌝ }
+    ensures { λ _. ⌜ now (out .exit) ≡ table n (membersFrom n (now (secondary .entry)) (now (tops .entry))) ⌝ }
 {
-    let own = reticulation_tops(n, secondary, tops);
-    tables::child_counts(n, &own)
+    let mut own = [0u32; 128];
+    reticulation_tops(n, secondary, tops, &mut own);
+    tables::child_counts(n, &own, out);
 }
 
 fn earlier_at(secondary: &[u32; 128], tops: &[u32; 128], c: usize, r: usize, q: usize) -> bool
@@ -92,13 +94,13 @@ fn index_next(
 }
 
 // How many reticulations of its component have a lower number than each node.
-pub fn indices(n: usize, secondary: &[u32; 128], tops: &[u32; 128]) -> [u32; 128]
-    requires { ⌜ n ≤ 127 ⌝ }
-    ensures { λ r. ⌜ r ≡ table n (indexFrom n (now (secondary .entry)) (now (tops .entry))) ⌝ }
+pub fn indices(n: usize, secondary: &[u32; 128], tops: &[u32; 128], out: &mut [u32; 128])
+    requires { ⌜ (n ≤ 127) × (now out ≡ zeros) ⌝ }
+    ensures { λ _. ⌜ now (out .exit) ≡ table n (indexFrom n (now (secondary .entry)) (now (tops .entry))) ⌝ }
 {
-    let own = reticulation_tops(n, secondary, tops);
+    let mut own = [0u32; 128];
+    reticulation_tops(n, secondary, tops, &mut own);
     let mut seen = [0u32; 128];
-    let mut out = [0u32; 128];
     let mut v: usize = 0;
     while v < n {
         let w = v + 1;
@@ -106,7 +108,6 @@ pub fn indices(n: usize, secondary: &[u32; 128], tops: &[u32; 128]) -> [u32; 128
         tables::count_next(n, &own, v, &mut seen);
         v = w;
     }
-    out
 }
 
 fn crowded_from(members: &[u32; 128], c: usize) -> bool
@@ -130,13 +131,22 @@ fn some_crowded(n: usize, members: &[u32; 128]) -> bool
     false
 }
 
-// 11. The climbs of `tops` end: 6, 7 and 8 have passed.
-pub fn eleven(n: usize, principal: &[u32; 128], secondary: &[u32; 128], stamp: &[u32; 128]) -> bool
-    requires { ⌜ n ≤ 127 ⌝ }
+// 11, with the top of each node's component and how many reticulations each has, in two tables lent as zeros. The climbs of `tops` end: 6, 7 and 8 have
+// passed.
+pub fn eleven(
+    n: usize,
+    principal: &[u32; 128],
+    secondary: &[u32; 128],
+    stamp: &[u32; 128],
+    top: &mut [u32; 128],
+    held: &mut [u32; 128],
+) -> bool
+    requires { ⌜ (n ≤ 127) × (now top ≡ zeros) × (now held ≡ zeros) ⌝ }
     requires { ⌜ Sound (networkOf n (now principal) (now secondary) (now stamp)) ⌝ }
     ensures { λ r. ⌜ r ≡ refusal11 (networkOf n (now (principal .entry)) (now (secondary .entry)) (now (stamp .entry))) ⌝ }
+    ensures { λ _. ⌜ Parted n (now (principal .entry)) (now (secondary .entry)) (now (stamp .entry)) (now (top .exit)) (now (held .exit)) ⌝ }
 {
-    let top = tops(n, principal, secondary, stamp);
-    let held = members(n, secondary, &top);
-    some_crowded(n, &held)
+    tops(n, principal, secondary, stamp, top);
+    members(n, secondary, top, held);
+    some_crowded(n, held)
 }

@@ -3,7 +3,7 @@ ghost use mathlib.Core.Path.{_≡_};
 ghost use Prim.Native.Nat.{_≤_};
 ghost use Rattle.finite.specs.Tests.{same, tally};
 ghost use Rattle.finite.specs.Range.{children};
-ghost use Rattle.finite.specs.Tables.{at};
+ghost use Rattle.finite.specs.Tables.{at, zeros};
 ghost use Rattle.network.specs.Tables.{table, ofKind, byKind};
 
 pub fn wide(x: u32) -> usize
@@ -62,16 +62,15 @@ pub fn by_kind(
     secondary: &[u32; 128],
     plain: &[u32; 128],
     other: &[u32; 128],
-) -> [u32; 128]
-    requires { ⌜ n ≤ 127 ⌝ }
-    ensures { λ r. ⌜ r ≡ table n (byKind (now (secondary .entry)) (now (plain .entry)) (now (other .entry))) ⌝ }
+    out: &mut [u32; 128],
+)
+    requires { ⌜ (n ≤ 127) × (now out ≡ zeros) ⌝ }
+    ensures { λ _. ⌜ now (out .exit) ≡ table n (byKind (now (secondary .entry)) (now (plain .entry)) (now (other .entry))) ⌝ }
 {
-    let mut out = [0u32; 128];
     let mut v: usize = 0;
     while v < n {
         let w = v + 1;
         out[w] = of_kind(secondary[w], plain[w], other[w]);
         v = w;
     }
-    out
 }

@@ -13,18 +13,24 @@ use shapes::nine;
 use shapes::ten;
 ghost use mathlib.Core.Path.{_≡_};
 ghost use Prim.Native.Nat.{_≤_};
+ghost use Rattle.finite.specs.Tables.{zeros};
+ghost use Rattle.network.specs.Tables.{Parted};
 ghost use Rattle.network.specs.Verdict.{networkVerdict};
 
-// The first refusal of 6 to 11 that applies, or 0.
+// The first refusal of 6 to 11 that applies, or 0; where none does, also the top of each node's component and how many reticulations each has, in two
+// tables lent as zeros: 11 asks for both, and whoever goes on needs them.
 pub fn verdict(
     n: usize,
     principal: &[u32; 128],
     secondary: &[u32; 128],
     stamp: &[u32; 128],
     species: &[u32; 128],
+    top: &mut [u32; 128],
+    held: &mut [u32; 128],
 ) -> u32
-    requires { ⌜ n ≤ 127 ⌝ }
+    requires { ⌜ (n ≤ 127) × (now top ≡ zeros) × (now held ≡ zeros) ⌝ }
     ensures { λ r. ⌜ r ≡ networkVerdict n (now (principal .entry)) (now (secondary .entry)) (now (stamp .entry)) (now (species .entry)) ⌝ }
+    ensures { λ r. ⌜ (r ≡ 0 → Parted n (now (principal .entry)) (now (secondary .entry)) (now (stamp .entry)) (now (top .exit)) (now (held .exit))) ⌝ }
 {
     if six(n, principal, secondary) {
         return 6;
@@ -32,8 +38,10 @@ pub fn verdict(
     if seven(n, principal, secondary, stamp) {
         return 7;
     }
-    let principals = tables::child_counts(n, principal);
-    let secondaries = tables::child_counts(n, secondary);
+    let mut principals = [0u32; 128];
+    tables::child_counts(n, principal, &mut principals);
+    let mut secondaries = [0u32; 128];
+    tables::child_counts(n, secondary, &mut secondaries);
     if eight(n, principal, secondary, &principals, &secondaries) {
         return 8;
     }
@@ -43,7 +51,7 @@ pub fn verdict(
     if ten(n, principal, secondary, &principals, &secondaries) {
         return 10;
     }
-    if eleven(n, principal, secondary, stamp) {
+    if eleven(n, principal, secondary, stamp, top, held) {
         return 11;
     }
     0

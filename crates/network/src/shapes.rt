@@ -6,7 +6,7 @@ ghost use mathlib.Core.Path.{_≡_};
 ghost use mathlib.Core.Logic.{_≢_};
 ghost use Prim.Native.Nat.{_≤_};
 ghost use Rattle.finite.specs.Range.{children};
-ghost use Rattle.finite.specs.Tables.{at};
+ghost use Rattle.finite.specs.Tables.{at, zeros};
 ghost use Rattle.tables.specs.Children.{childCounts};
 ghost use Rattle.network.specs.Refusals.{reticulationWith, innerWith, leafWith, shapeless, shapelessAt, refusal8, refusal9, onlyReticulationsAt, refusal10};
 ghost use Rattle.network.specs.ShortForms.{wrongSpeciesAt, plainParentAt, onlyReticulations};
@@ -153,7 +153,8 @@ pub fn nine(
     requires { ⌜ ArcsOut n (now principal) (now secondary) (now principals) (now secondaries) ⌝ }
     ensures { λ r. ⌜ r ≡ refusal9 n (now (principal .entry)) (now (secondary .entry)) (now (species .entry)) ⌝ }
 {
-    let counts = tables::child_counts(n, species);
+    let mut counts = [0u32; 128];
+    tables::child_counts(n, species, &mut counts);
     let mut v: usize = 0;
     while v < n {
         if wrong_species_at(
@@ -174,13 +175,14 @@ pub fn nine(
 }
 
 // The arcs out of each node that lead to no reticulation: all are principal.
-fn plain_arcs(n: usize, principal: &[u32; 128], secondary: &[u32; 128]) -> [u32; 128]
-    requires { ⌜ n ≤ 127 ⌝ }
-    ensures { λ r. ⌜ r ≡ table n (children n (plainParentAt (now (principal .entry)) (now (secondary .entry)))) ⌝ }
+fn plain_arcs(n: usize, principal: &[u32; 128], secondary: &[u32; 128], out: &mut [u32; 128])
+    requires { ⌜ (n ≤ 127) × (now out ≡ zeros) ⌝ }
+    ensures { λ _. ⌜ now (out .exit) ≡ table n (children n (plainParentAt (now (principal .entry)) (now (secondary .entry)))) ⌝ }
 {
     let none = [0u32; 128];
-    let parents = by_kind(n, secondary, principal, &none);
-    tables::child_counts(n, &parents)
+    let mut parents = [0u32; 128];
+    by_kind(n, secondary, principal, &none, &mut parents);
+    tables::child_counts(n, &parents, out);
 }
 
 // 10: of a node with a principal and b secondary arcs out, of which k lead to no reticulation.
@@ -225,7 +227,8 @@ pub fn ten(
     requires { ⌜ ArcsOut n (now principal) (now secondary) (now principals) (now secondaries) ⌝ }
     ensures { λ r. ⌜ r ≡ refusal10 n (now (principal .entry)) (now (secondary .entry)) ⌝ }
 {
-    let plain = plain_arcs(n, principal, secondary);
+    let mut plain = [0u32; 128];
+    plain_arcs(n, principal, secondary, &mut plain);
     let mut v: usize = 0;
     while v < n {
         if only_reticulations_at(

@@ -27,7 +27,9 @@ fn verdict_of(n: usize, principal: &[u32], secondary: &[u32], stamp: &[u32], spe
     let s = table(secondary);
     let t = table(stamp);
     let k = table(species);
-    network::verdict(n, &p, &s, &t, &k)
+    let mut top = [0u32; 128];
+    let mut held = [0u32; 128];
+    network::verdict(n, &p, &s, &t, &k, &mut top, &mut held)
 }
 
 fn digit(x: u32) -> u8 {

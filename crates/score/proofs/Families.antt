@@ -56,7 +56,7 @@ use Rattle.report.specs.Reports.{SmallTotals, Reticulations, Genes, hasSecondar
 use Rattle.report.proofs.Writing.{length-report}
 use Rattle.score.specs.Families.{Tables, networkIn, geneTreeIn, costsIn, familyIn, reported}
 use Rattle.score.specs.Outcome.{componentCount, totalsIn, reportIn}
-use Rattle.score.specs.Stages.{tablesBy, Sized, Passed, Written, Mapped, mappedReport}
+use Rattle.score.specs.Stages.{tablesBy, Sized, Passed, Worked, Written, Mapped, mappedReport}
 use Rattle.score.proofs.Lines.{report-same}
 
 -- what is no reticulation is set by no setting
@@ -113,19 +113,17 @@ module _ (h : Header) (p c t k q x : List ℕ) (b w : ℕ) (S : Sized (tablesBy 
   is-sound = sound (h .nodes) (h .genes) (h .duplication) (h .transfer) (h .loss) p c t k q x admitted
 
   -- the tables that do not depend on the switching
-  module _ (height top size index left right leaf : List ℕ) (eh : height ≡ table 127 (heightIn (h .nodes) c t)) (et : top ≡ table (h .nodes) (component (networkOf (h .nodes) p c t)))
-      (em : size ≡ table (h .nodes) (membersFrom (h .nodes) c top)) (ei : index ≡ table (h .nodes) (indexFrom (h .nodes) c top)) (el : left ≡ leftTable (h .genes) q)
-      (er : right ≡ rightTable (h .genes) q) (ef : leaf ≡ leafTable (h .nodes) (h .genes) x k) where
+  module _ (height top size index left right leaf : List ℕ) (E : Worked (tablesBy h p c t k q x) height top size index left right leaf) where
     pub prepares : Prepared (h .nodes) p c t height top size index (h .genes) left right leaf q (record { duplication = h .duplication; transfer = h .transfer; loss = h .loss })
     prepares = prepared (h .nodes) p c t k height top size index (h .genes) left right leaf q x u (S .few-nodes) (S .few-genes) (S .some-gene)
-        (record { duplication = S .duplication-low; transfer = S .transfer-low; loss = S .loss-low }) (S .parent-clear) (P .network) (P .genes) eh et em ei el er ef
+        (record { duplication = S .duplication-low; transfer = S .transfer-low; loss = S .loss-low }) (S .parent-clear) (P .network) (P .genes) (E .heights) (E .parted .top) (E .parted .held) (E .indices) (E .lefts) (E .rights) (E .leaves)
 
     genes-is : genesOf (h .genes) left right leaf q ≡ geneTreeOf (h .nodes) (h .genes) q x k
-    genes-is = rw (el, er, ef) (genes-are (h .nodes) (h .genes) q x k (S .few-genes) (S .parent-clear))
+    genes-is = rw (E .lefts, E .rights, E .leaves) (genes-are (h .nodes) (h .genes) q x k (S .few-genes) (S .parent-clear))
 
     -- the whole-network table of these tables
     pub whole-ready : Accepted (h .nodes) p c t k (h .genes) left right x (h .duplication) (h .transfer) (h .loss)
-    whole-ready = rw (el, er) (whole-accepted (h .nodes) (h .genes) (h .duplication) (h .transfer) (h .loss) p c t k q x admitted)
+    whole-ready = rw (E .lefts, E .rights) (whole-accepted (h .nodes) (h .genes) (h .duplication) (h .transfer) (h .loss) p c t k q x admitted)
 
     pub whole-room : h .genes * h .nodes ≤ w
     whole-room = le-trans (mul-le-mul (S .few-genes) (S .few-nodes)) (S .space)
@@ -133,7 +131,7 @@ module _ (h : Header) (p c t k q x : List ℕ) (b w : ℕ) (S : Sized (tablesBy 
     module _ (y z : List ℕ) (r : ℕ) (W : WholeNetwork (familyOf (h .nodes) p c k (h .genes) left right x (h .duplication) (h .transfer) (h .loss)) y z r) where
       family-is : familyOf (h .nodes) p c k (h .genes) left right x (h .duplication) (h .transfer) (h .loss) ≡ familyIn (tablesBy h p c t k q x)
       unfolding familyIn
-      family-is = rw (el, er)
+      family-is = rw (E .lefts, E .rights)
 
       whole-network : WholeNetwork (familyIn (tablesBy h p c t k q x)) y z r
       whole-network = rw family-is at W
@@ -183,13 +181,13 @@ module _ (h : Header) (p c t k q x : List ℕ) (b w : ℕ) (S : Sized (tablesBy 
       n-low = S .few-nodes
 
       top-at : (v : ℕ) → 1 ≤ v → v ≤ h .nodes → at top v ≡ component N v
-      top-at v a l = ap (λ (y : List ℕ). at y v) et ∙ table-at (h .nodes) (component N) n-low v a l
+      top-at v a l = ap (λ (y : List ℕ). at y v) (E .parted .top) ∙ table-at (h .nodes) (component N) n-low v a l
 
       size-at : (v : ℕ) → 1 ≤ v → v ≤ h .nodes → at size v ≡ members N v
       size-at v a l = ap (λ (y : List ℕ). at y v) (prepares .sizes) ∙ table-at (h .nodes) (members N) n-low v a l
 
       top-low : (v : ℕ) → at top v ≤ 127
-      top-low v = rw et (table-low (h .nodes) 127 (component N) n-low (λ y a l. component-small (h .nodes) (h .genes) (h .duplication) (h .transfer) (h .loss) p c t k q x admitted y (omega arith)) v)
+      top-low v = rw (E .parted .top) (table-low (h .nodes) 127 (component N) n-low (λ y a l. component-small (h .nodes) (h .genes) (h .duplication) (h .transfer) (h .loss) p c t k q x admitted y (omega arith)) v)
 
       size-low : (v : ℕ) → at size v ≤ 8
       size-low v = rw (prepares .sizes) (table-low (h .nodes) 8 (members N) n-low (λ y a l. prepares .few y) v)

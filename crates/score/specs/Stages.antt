@@ -10,8 +10,10 @@ use Rattle.sheet.specs.Sheets.{zeros, columnOf, headerOf}
 use Rattle.sheet.specs.declared.Header.{Header}
 use Rattle.sheet.specs.declared.Headed.the-variants.{Header as accepted}
 use Rattle.columns.specs.Lines.{written}
+use Rattle.network.specs.Tables.{table, heightIn, indexFrom, Parted}
 use Rattle.network.specs.Verdict.{networkVerdict}
 use Rattle.gene_tree.specs.Refusals.{geneVerdict}
+use Rattle.gene_tree.specs.Genes.{leftTable, rightTable, leafTable}
 use Rattle.histories.specs.Words.{words}
 use Rattle.mapping.specs.Switched.{switchedOf, Switched}
 use Rattle.mapping.specs.Genes.{Family, placeTable, eventTable, transferTable, lossTable}
@@ -66,6 +68,15 @@ pub record Lined (s : List ℕ) (h : Header) (bytes words : ℕ) : Type 0 where
 pub record Passed (X : Tables) : Type 0 where
   pub network : networkVerdict (X .nodes) (X .principal) (X .secondary) (X .stamp) (X .species) ≡ 0
   pub genes : geneVerdict (X .nodes) (X .genes) (X .parent) (X .kind) (X .species) ≡ 0
+
+-- the tables that are worked out once for a family: heights, the components' tops, members and indices, the genes' children and leaves
+pub record Worked (X : Tables) (height top members index left right leaf : List ℕ) : Type 0 where
+  pub heights : height ≡ table 127 (heightIn (X .nodes) (X .secondary) (X .stamp))
+  pub parted : Parted (X .nodes) (X .principal) (X .secondary) (X .stamp) top members
+  pub indices : index ≡ table (X .nodes) (indexFrom (X .nodes) (X .secondary) top)
+  pub lefts : left ≡ leftTable (X .genes) (X .parent)
+  pub rights : right ≡ rightTable (X .genes) (X .parent)
+  pub leaves : leaf ≡ leafTable (X .nodes) (X .genes) (X .kind) (X .species)
 
 -- the report is written over the front of the result, which was d and is e, and the table over that of the scratch, which was u and is t
 pub record Written (X : Tables) (d e u t : List ℕ) (r : ℕ) : Type 0 where

@@ -13,11 +13,12 @@ ghost use Rattle.finite.specs.Tests.{same, tally};
 ghost use Rattle.finite.specs.Range.{count};
 ghost use Rattle.columns.specs.Lines.{written};
 ghost use Rattle.report.specs.Reports.{hasSecondary, reportLength};
+ghost use Rattle.network.specs.Tables.{Parted};
 ghost use Rattle.mapping.specs.Evaluated.{Tabled};
 ghost use Rattle.score.specs.Families.{Tables, tablesOf};
 ghost use Rattle.score.specs.Refusals.{leastWords, leastBytes, curators, firstFrom, refusal};
 ghost use Rattle.score.specs.Outcome.{Outcome, Promise};
-ghost use Rattle.score.specs.Stages.{tablesBy, cellTables, Lined, Sized, Passed, Written, Mapped, mappedReport};
+ghost use Rattle.score.specs.Stages.{tablesBy, cellTables, Lined, Sized, Passed, Worked, Written, Mapped, mappedReport};
 
 // The least scratch, in words, and the least result, in bytes.
 const LEAST_WORDS: usize = 16129;
@@ -72,12 +73,12 @@ fn write_mapped(
     members: &[u32; 128],
     place: &[u32; 128],
     event: &[u32; 128],
-    transfers: &[u32; 128],
-    losses: &[u32; 128],
+    moved: &[u32; 128],
+    lost: &[u32; 128],
     result: &mut [u8],
 ) -> usize
     requires { ⌜ Mapped totals n (now up) (now on) (now height) m (now left) (now right) (now leaf) (now mother) (now secondary) (now top) (now members) (length (now result)) ⌝ }
-    requires { ⌜ Tabled n (now up) (now on) (now height) m (now left) (now right) (now leaf) (now mother) (now place) (now event) (now transfers) (now losses) ⌝ }
+    requires { ⌜ Tabled n (now up) (now on) (now height) m (now left) (now right) (now leaf) (now mother) (now place) (now event) (now moved) (now lost) ⌝ }
     ensures { λ r. ⌜ (now (result .exit) ≡ written (now (result .entry)) (mappedReport totals n (now (up .entry)) (now (on .entry)) (now (height .entry)) m (now (left .entry)) (now (right .entry)) (now (leaf .entry)) (now (mother .entry)) (now (secondary .entry)) (now (top .entry)) (now (members .entry)))) × (r ≡ reportLength n m (hasSecondary (now (secondary .entry)))) ⌝ }
 {
     report::write_report(
@@ -92,13 +93,13 @@ fn write_mapped(
         members,
         place,
         event,
-        transfers,
-        losses,
+        moved,
+        lost,
     )
 }
 
-// Writes the report and the table of a family that no refusal applies to, and returns the bytes of the report.
-fn write_family(
+// Searches, fills the table and writes the report, by the tables that are worked out once for the family; returns the bytes of the report.
+fn write_worked(
     h: Header,
     principal: &[u32; 128],
     secondary: &[u32; 128],
@@ -106,42 +107,51 @@ fn write_family(
     species: &[u32; 128],
     parent: &[u32; 128],
     kind: &[u32; 128],
+    height: &[u32; 128],
+    top: &[u32; 128],
+    members: &[u32; 128],
+    index: &[u32; 128],
+    left: &[u32; 128],
+    right: &[u32; 128],
+    leaf: &[u32; 128],
     result: &mut [u8],
     scratch: &mut [u32],
 ) -> usize
     requires { ⌜ Sized (tablesBy h (now principal) (now secondary) (now stamp) (now species) (now parent) (now kind)) (length (now result)) (length (now scratch)) ⌝ }
     requires { ⌜ Passed (tablesBy h (now principal) (now secondary) (now stamp) (now species) (now parent) (now kind)) ⌝ }
+    requires { ⌜ Worked (tablesBy h (now principal) (now secondary) (now stamp) (now species) (now parent) (now kind)) (now height) (now top) (now members) (now index) (now left) (now right) (now leaf) ⌝ }
     ensures { λ r. ⌜ Written (tablesBy h (now (principal .entry)) (now (secondary .entry)) (now (stamp .entry)) (now (species .entry)) (now (parent .entry)) (now (kind .entry))) (now (result .entry)) (now (result .exit)) (now (scratch .entry)) (now (scratch .exit)) r ⌝ }
 {
     let n = h.nodes;
     let m = h.genes;
-    let height = network::climbs::heights(n, secondary, stamp);
-    let top = network::climbs::tops(n, principal, secondary, stamp);
-    let members = network::components::members(n, secondary, &top);
-    let index = network::components::indices(n, secondary, &top);
-    let left = gene_tree::left_children(m, parent);
-    let right = gene_tree::right_children(m, parent);
-    let leaf = gene_tree::leaf_nodes(m, kind, n, species);
     let costs = UnitCosts {
         duplication: h.duplication,
         transfer: h.transfer,
         loss: h.loss,
     };
+    let mut place = [0u32; 128];
+    let mut event = [0u32; 128];
+    let mut moved = [0u32; 128];
+    let mut lost = [0u32; 128];
     let found = search::run(
         n,
         principal,
         secondary,
         stamp,
-        &height,
-        &top,
-        &members,
-        &index,
+        height,
+        top,
+        members,
+        index,
         m,
-        &left,
-        &right,
-        &leaf,
+        left,
+        right,
+        leaf,
         parent,
         costs,
+        &mut place,
+        &mut event,
+        &mut moved,
+        &mut lost,
     );
     let sizes = whole_network::Header {
         nodes: n,
@@ -156,8 +166,8 @@ fn write_family(
         secondary,
         stamp,
         species,
-        &left,
-        &right,
+        left,
+        right,
         kind,
         scratch,
     );
@@ -171,33 +181,80 @@ fn write_family(
         nodes: n as u32,
         genes: m as u32,
         reticulations: count_some(n, secondary),
-        components: count_some(n, &members),
+        components: count_some(n, members),
     };
     let on = found.on;
     let up = found.up;
-    let place = found.place;
-    let event = found.event;
-    let transfers = found.transfers;
-    let losses = found.losses;
     write_mapped(
         totals,
         n,
         &up,
         &on,
-        &height,
+        height,
         m,
+        left,
+        right,
+        leaf,
+        parent,
+        secondary,
+        top,
+        members,
+        &place,
+        &event,
+        &moved,
+        &lost,
+        result,
+    )
+}
+
+// Writes the report and the table of a family that no refusal applies to, and returns the bytes of the report. The verdict on the network has found the
+// tops and members of its components.
+fn write_family(
+    h: Header,
+    principal: &[u32; 128],
+    secondary: &[u32; 128],
+    stamp: &[u32; 128],
+    species: &[u32; 128],
+    parent: &[u32; 128],
+    kind: &[u32; 128],
+    top: &[u32; 128],
+    members: &[u32; 128],
+    result: &mut [u8],
+    scratch: &mut [u32],
+) -> usize
+    requires { ⌜ Sized (tablesBy h (now principal) (now secondary) (now stamp) (now species) (now parent) (now kind)) (length (now result)) (length (now scratch)) ⌝ }
+    requires { ⌜ Passed (tablesBy h (now principal) (now secondary) (now stamp) (now species) (now parent) (now kind)) ⌝ }
+    requires { ⌜ Parted (h .nodes) (now principal) (now secondary) (now stamp) (now top) (now members) ⌝ }
+    ensures { λ r. ⌜ Written (tablesBy h (now (principal .entry)) (now (secondary .entry)) (now (stamp .entry)) (now (species .entry)) (now (parent .entry)) (now (kind .entry))) (now (result .entry)) (now (result .exit)) (now (scratch .entry)) (now (scratch .exit)) r ⌝ }
+{
+    let n = h.nodes;
+    let m = h.genes;
+    let height = network::climbs::heights(n, secondary, stamp);
+    let mut index = [0u32; 128];
+    network::components::indices(n, secondary, top, &mut index);
+    let mut left = [0u32; 128];
+    gene_tree::left_children(m, parent, &mut left);
+    let mut right = [0u32; 128];
+    gene_tree::right_children(m, parent, &left, &mut right);
+    let mut leaf = [0u32; 128];
+    gene_tree::leaf_nodes(m, kind, n, species, &mut leaf);
+    write_worked(
+        h,
+        principal,
+        secondary,
+        stamp,
+        species,
+        parent,
+        kind,
+        &height,
+        top,
+        members,
+        &index,
         &left,
         &right,
         &leaf,
-        parent,
-        secondary,
-        &top,
-        &members,
-        &place,
-        &event,
-        &transfers,
-        &losses,
         result,
+        scratch,
     )
 }
 
@@ -218,7 +275,17 @@ fn score_tables(
 {
     let n = h.nodes;
     let m = h.genes;
-    let v = network::verdict(n, principal, secondary, stamp, species);
+    let mut top = [0u32; 128];
+    let mut members = [0u32; 128];
+    let v = network::verdict(
+        n,
+        principal,
+        secondary,
+        stamp,
+        species,
+        &mut top,
+        &mut members,
+    );
     if v != 0 {
         return Answer::Refused(v);
     }
@@ -234,6 +301,8 @@ fn score_tables(
         species,
         parent,
         kind,
+        &top,
+        &members,
         result,
         scratch,
     );
@@ -241,18 +310,29 @@ fn score_tables(
 }
 
 // The later lines, and the tables that they give.
-fn score_cells(h: Header, cells: &[u32; 1280], result: &mut [u8], scratch: &mut [u32]) -> Answer
+fn score_cells(
+    h: Header,
+    cells: &[u32; sheet::CELLS],
+    result: &mut [u8],
+    scratch: &mut [u32],
+) -> Answer
     requires { ⌜ Sized (cellTables h (now cells)) (length (now result)) (length (now scratch)) ⌝ }
     ensures { λ r. ⌜ Outcome (firstFrom 6 (curators (cellTables h (now (cells .entry))))) (cellTables h (now (cells .entry))) (now (result .entry)) (now (result .exit)) (now (scratch .entry)) (now (scratch .exit)) r ⌝ }
 {
     let n = h.nodes;
     let m = h.genes;
-    let principal = sheet::table(cells, 0, n, 1);
-    let secondary = sheet::table(cells, 0, n, 2);
-    let stamp = sheet::table(cells, 0, n, 3);
-    let species = sheet::table(cells, 0, n, 4);
-    let parent = sheet::table(cells, n, m, 1);
-    let kind = sheet::table(cells, n, m, 2);
+    let mut principal = [0u32; 128];
+    sheet::table(cells, 0, n, 1, &mut principal);
+    let mut secondary = [0u32; 128];
+    sheet::table(cells, 0, n, 2, &mut secondary);
+    let mut stamp = [0u32; 128];
+    sheet::table(cells, 0, n, 3, &mut stamp);
+    let mut species = [0u32; 128];
+    sheet::table(cells, 0, n, 4, &mut species);
+    let mut parent = [0u32; 128];
+    sheet::table(cells, n, m, 1, &mut parent);
+    let mut kind = [0u32; 128];
+    sheet::table(cells, n, m, 2, &mut kind);
     score_tables(
         h,
         &principal,
@@ -276,7 +356,8 @@ fn score_lines(sheet: &[u8], h: Header, result: &mut [u8], scratch: &mut [u32]) 
     if !sheet::is_whole(sheet, n, m) {
         return Answer::Refused(5);
     }
-    let cells = sheet::cells(sheet, 1 + n + m);
+    let mut cells = [0u32; sheet::CELLS];
+    sheet::cells(sheet, 1 + n + m, &mut cells);
     if !sheet::nodes_in_order(&cells, n) {
         return Answer::Refused(5);
     }

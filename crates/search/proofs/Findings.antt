@@ -37,13 +37,13 @@ module _ (n : ℕ) (principal secondary stamp height top members index : List �
   abbrev G : GeneTree
   G = genesOf m left right leaf mother
 
-  pub found : (bests on up place event transfers losses : List ℕ) (count : ℕ) (s : Score)
+  pub found : (bests on up : List ℕ) (count : ℕ) (s : Score)
       → stateOf bests count ≡ searchAfter (networkOf n principal secondary stamp) (genesOf m left right leaf mother) (costsOf u) (trials (networkOf n principal secondary stamp))
       → on ≡ reportedTable n bests secondary top members index → up ≡ upTable n principal secondary on
       → s ≡ scoreOf (switchedOf n up on height) (genesOf m left right leaf mother) u taken
-      → Searched (networkOf n principal secondary stamp) (genesOf m left right leaf mother) u (record { bests = bests; trials = count; on = on; up = up; place = place; event = event; transfers = transfers; losses = losses; score = s })
+      → Searched (networkOf n principal secondary stamp) (genesOf m left right leaf mother) u (record { bests = bests; trials = count; on = on; up = up; score = s })
   unfolding reported
-  found bests on up place event transfers losses count s h a b q =
+  found bests on up count s h a b q =
       let marks = reported-marks n principal secondary stamp height top members index m left right leaf mother u P bests on a in
       record {
         steps = search-state N G (costsOf u);

@@ -6,7 +6,7 @@ ghost use mathlib.Core.Logic.{_≢_};
 ghost use Prim.Native.Nat.{ℕ, _+_, _≤_, _<_};
 ghost use lib.ListN.{length};
 ghost use Rattle.finite.specs.Range.{sum};
-ghost use Rattle.finite.specs.Tables.{at};
+ghost use Rattle.finite.specs.Tables.{at, zeros};
 ghost use Rattle.topology.specs.Tables.{networkOf};
 ghost use Rattle.network.specs.Trials.{trialsOf};
 ghost use Rattle.mapping.specs.Genes.{genesOf};
@@ -28,16 +28,12 @@ pub struct State {
 }
 
 // What the search found: the best settings, the trials, and of the switching put together from the bests the marks of the on secondary arcs, the on
-// parents, the place, event, transfers and losses of each gene, and the score.
+// parents and the score.
 pub struct Found {
     pub bests: [u32; 128],
     pub trials: u32,
     pub on: [u32; 128],
     pub up: [u32; 128],
-    pub place: [u32; 128],
-    pub event: [u32; 128],
-    pub transfers: [u32; 128],
-    pub losses: [u32; 128],
     pub score: mapping::Score,
 }
 
@@ -81,8 +77,10 @@ fn trial(
     requires { ⌜ (1 ≤ c) × (c ≤ n) ⌝ }
     ensures { λ r. ⌜ r ≡ trialCost (networkOf n (now (principal .entry)) (now (secondary .entry)) (now (stamp .entry))) (genesOf m (now (left .entry)) (now (right .entry)) (now (leaf .entry)) (now (mother .entry))) (costsOf u) c x ⌝ }
 {
-    let on = mapping::setting_marks(n, secondary, top, members, index, c, x);
-    let up = mapping::parents(n, principal, secondary, &on);
+    let mut on = [0u32; 128];
+    mapping::setting_marks(n, secondary, top, members, index, c, x, &mut on);
+    let mut up = [0u32; 128];
+    mapping::parents(n, principal, secondary, &on, &mut up);
     mapping::cost(n, &up, &on, height, m, left, right, leaf, mother, u)
 }
 
@@ -101,22 +99,14 @@ fn settle(s: State, c: usize, x: u32, cost: u32) -> State
     requires { ⌜ (length (s .bests) ≡ 128) × (c ≤ 127) × (s .count ≤ 100000) ⌝ }
     ensures { λ r. ⌜ r ≡ settled s c x cost ⌝ }
 {
-    let mut bests = s.bests;
     let least = s.least;
-    let count = s.count + 1;
+    let mut r = s;
+    r.count += 1;
     if takes(x, cost, least) {
-        bests[c] = x;
-        return State {
-            bests: bests,
-            least: cost,
-            count: count,
-        };
+        r.bests[c] = x;
+        r.least = cost;
     }
-    State {
-        bests: bests,
-        least: least,
-        count: count,
-    }
+    r
 }
 
 // "One step scores the next setting of a single component .. and raises the count by one": setting x of component c is next.
@@ -287,11 +277,11 @@ fn reported_marks(
     top: &[u32; 128],
     members: &[u32; 128],
     index: &[u32; 128],
-) -> [u32; 128]
-    requires { ⌜ Indexed n (now secondary) (now top) (now members) (now index) ⌝ }
-    ensures { λ r. ⌜ r ≡ reportedTable n (now (bests .entry)) (now (secondary .entry)) (now (top .entry)) (now (members .entry)) (now (index .entry)) ⌝ }
+    out: &mut [u32; 128],
+)
+    requires { ⌜ Indexed n (now secondary) (now top) (now members) (now index) × (now out ≡ zeros) ⌝ }
+    ensures { λ _. ⌜ now (out .exit) ≡ reportedTable n (now (bests .entry)) (now (secondary .entry)) (now (top .entry)) (now (members .entry)) (now (index .entry)) ⌝ }
 {
-    let mut out = [0u32; 128];
     let mut v: usize = 0;
     while v < n {
         let w = v + 1;
@@ -299,10 +289,9 @@ fn reported_marks(
         out[w] = mark_by(bests[t], members[t], secondary[w], index[w]);
         v = w;
     }
-    out
 }
 
-// The search: steps until no setting is left, then the switching of the last state's bests.
+// The search: steps until no setting is left, then the switching of the last state's bests, and its genes in four tables lent as zeros.
 pub fn run(
     n: usize,
     principal: &[u32; 128],
@@ -318,10 +307,15 @@ pub fn run(
     leaf: &[u32; 128],
     mother: &[u32; 128],
     u: mapping::UnitCosts,
+    place: &mut [u32; 128],
+    event: &mut [u32; 128],
+    moved: &mut [u32; 128],
+    lost: &mut [u32; 128],
 ) -> Found
     requires { ⌜ Prepared n (now principal) (now secondary) (now stamp) (now height) (now top) (now members) (now index) m (now left) (now right) (now leaf) (now mother) u ⌝ }
+    requires { ⌜ (now place ≡ zeros) × (now event ≡ zeros) × (now moved ≡ zeros) × (now lost ≡ zeros) ⌝ }
     ensures { λ r. ⌜ Searched (networkOf n (now (principal .entry)) (now (secondary .entry)) (now (stamp .entry))) (genesOf m (now (left .entry)) (now (right .entry)) (now (leaf .entry)) (now (mother .entry))) u r ⌝ }
-    ensures { λ r. ⌜ Tabled n (r .up) (r .on) (now (height .entry)) m (now (left .entry)) (now (right .entry)) (now (leaf .entry)) (now (mother .entry)) (r .place) (r .event) (r .transfers) (r .losses) ⌝ }
+    ensures { λ r. ⌜ Tabled n (r .up) (r .on) (now (height .entry)) m (now (left .entry)) (now (right .entry)) (now (leaf .entry)) (now (mother .entry)) (now (place .exit)) (now (event .exit)) (now (moved .exit)) (now (lost .exit)) ⌝ }
 {
     let s = components(
         n,
@@ -340,23 +334,31 @@ pub fn run(
         u,
     );
     let bests = s.bests;
-    let on = reported_marks(n, &bests, secondary, top, members, index);
-    let up = mapping::parents(n, principal, secondary, &on);
-    let genes = mapping::evaluate(n, &up, &on, height, m, left, right, leaf, mother, u);
-    let place = genes.place;
-    let event = genes.event;
-    let transfers = genes.transfers;
-    let losses = genes.losses;
-    let score = genes.score;
+    let mut on = [0u32; 128];
+    reported_marks(n, &bests, secondary, top, members, index, &mut on);
+    let mut up = [0u32; 128];
+    mapping::parents(n, principal, secondary, &on, &mut up);
+    let score = mapping::evaluate(
+        n,
+        &up,
+        &on,
+        height,
+        m,
+        left,
+        right,
+        leaf,
+        mother,
+        u,
+        place,
+        event,
+        moved,
+        lost,
+    );
     Found {
         bests: bests,
         trials: s.count,
         on: on,
         up: up,
-        place: place,
-        event: event,
-        transfers: transfers,
-        losses: losses,
         score: score,
     }
 }

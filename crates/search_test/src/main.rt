@@ -429,12 +429,22 @@ fn searched(
     requires { ⌜ (networkVerdict n (now principal) (now secondary) (now stamp) (now species) ≡ 0) × (geneVerdict n m (now mother) (now genes) (now species) ≡ 0) ⌝ }
 {
     let height = network::climbs::heights(n, secondary, stamp);
-    let top = network::climbs::tops(n, principal, secondary, stamp);
-    let members = network::components::members(n, secondary, &top);
-    let index = network::components::indices(n, secondary, &top);
-    let left = gene_tree::left_children(m, mother);
-    let right = gene_tree::right_children(m, mother);
-    let leaf = gene_tree::leaf_nodes(m, genes, n, species);
+    let mut top = [0u32; 128];
+    network::climbs::tops(n, principal, secondary, stamp, &mut top);
+    let mut members = [0u32; 128];
+    network::components::members(n, secondary, &top, &mut members);
+    let mut index = [0u32; 128];
+    network::components::indices(n, secondary, &top, &mut index);
+    let mut left = [0u32; 128];
+    gene_tree::left_children(m, mother, &mut left);
+    let mut right = [0u32; 128];
+    gene_tree::right_children(m, mother, &left, &mut right);
+    let mut leaf = [0u32; 128];
+    gene_tree::leaf_nodes(m, genes, n, species, &mut leaf);
+    let mut place = [0u32; 128];
+    let mut event = [0u32; 128];
+    let mut moved = [0u32; 128];
+    let mut lost = [0u32; 128];
     search::run(
         n,
         principal,
@@ -450,6 +460,10 @@ fn searched(
         &leaf,
         mother,
         u,
+        &mut place,
+        &mut event,
+        &mut moved,
+        &mut lost,
     )
 }
 
@@ -524,7 +538,18 @@ fn sheet(
     let species = table(n, leaves);
     let mother = table(m, mothers);
     let genes = table(m, families);
-    if network::verdict(n, &principal, &secondary, &stamp, &species) != 0 {
+    let mut top = [0u32; 128];
+    let mut held = [0u32; 128];
+    let v = network::verdict(
+        n,
+        &principal,
+        &secondary,
+        &stamp,
+        &species,
+        &mut top,
+        &mut held,
+    );
+    if v != 0 {
         show(0, 0, 0, 0);
         return;
     }

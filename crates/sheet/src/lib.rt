@@ -28,7 +28,7 @@ pub enum Headed {
 }
 
 // The numbers of up to 255 lines, line by line.
-const CELLS: usize = 1280;
+pub const CELLS: usize = 1280;
 
 // Whether a line was found.
 fn is_line(end: End) -> bool
@@ -102,12 +102,11 @@ fn store_line(cells: &mut [u32; CELLS], at: usize, line: &[u32; columns::FIELDS]
     }
 }
 
-// The numbers of the first lines, each line read at its place.
-pub fn cells(s: &[u8], count: usize) -> [u32; CELLS]
-    requires { ⌜ count ≤ 255 ⌝ }
-    ensures { λ r. ⌜ r ≡ cellsOf (now (s .entry)) count ⌝ }
+// The numbers of the first lines, each line read at its place, put into empty cells.
+pub fn cells(s: &[u8], count: usize, cells: &mut [u32; CELLS])
+    requires { ⌜ (count ≤ 255) × (now cells ≡ cellsOf (now s) 0) ⌝ }
+    ensures { λ _. ⌜ now (cells .exit) ≡ cellsOf (now (s .entry)) count ⌝ }
 {
-    let mut cells = [0u32; CELLS];
     let mut i = 0;
     while i < count {
         let r = columns::read_line(
@@ -117,10 +116,9 @@ pub fn cells(s: &[u8], count: usize) -> [u32; CELLS]
             },
         );
         let line = r.line;
-        store_line(&mut cells, columns::FIELDS * i, &line);
+        store_line(cells, columns::FIELDS * i, &line);
         i += 1;
     }
-    cells
 }
 
 // The length rule of 5.
@@ -194,17 +192,15 @@ pub fn genes_in_order(cells: &[u32; CELLS], n: usize, m: usize) -> bool
     true
 }
 
-// Field k of the lines after the line `base`, as a table.
-pub fn table(cells: &[u32; CELLS], base: usize, count: usize, k: usize) -> [u32; 128]
-    requires { ⌜ (base ≤ 127) × (count ≤ 127) × (k < fieldCount) ⌝ }
-    ensures { λ r. ⌜ r ≡ filled count zeros (columnOf (now (cells .entry)) base k) ⌝ }
+// Field k of the lines after the line `base`, put into a table of zeros.
+pub fn table(cells: &[u32; CELLS], base: usize, count: usize, k: usize, t: &mut [u32; 128])
+    requires { ⌜ (base ≤ 127) × (count ≤ 127) × (k < fieldCount) × (now t ≡ zeros) ⌝ }
+    ensures { λ _. ⌜ now (t .exit) ≡ filled count zeros (columnOf (now (cells .entry)) base k) ⌝ }
 {
-    let mut t = [0u32; 128];
     let mut v = 0;
     while v < count {
         let w = v + 1;
         t[w] = cells[columns::FIELDS * (base + w) + k];
         v = w;
     }
-    t
 }

@@ -2,6 +2,7 @@
 // any entries will do, for what is no number of 1 to n has no children.
 ghost use mathlib.Core.Path.{_≡_};
 ghost use Prim.Native.Nat.{_+_, _≤_, _<_};
+ghost use Rattle.finite.specs.Tables.{zeros};
 ghost use Rattle.tables.specs.Children.{firstChildren, secondChildren, childCounts, inside, insideAfter, Counted};
 
 fn wide(x: u32) -> usize
@@ -33,11 +34,10 @@ fn slot_after(n: usize, after: &[u32; 128], p: usize, w: usize) -> usize
 }
 
 // The lowest child of each that is above its entry in `after`, 0 where there is none: from the highest child down, the last one written is the lowest.
-pub fn second_children(n: usize, parents: &[u32; 128], after: &[u32; 128]) -> [u32; 128]
-    requires { ⌜ n ≤ 127 ⌝ }
-    ensures { λ r. ⌜ r ≡ secondChildren n (now (parents .entry)) (now (after .entry)) ⌝ }
+pub fn second_children(n: usize, parents: &[u32; 128], after: &[u32; 128], out: &mut [u32; 128])
+    requires { ⌜ (n ≤ 127) × (now out ≡ zeros) ⌝ }
+    ensures { λ _. ⌜ now (out .exit) ≡ secondChildren n (now (parents .entry)) (now (after .entry)) ⌝ }
 {
-    let mut out = [0u32; 128];
     let mut w = n;
     while 0 < w {
         let p = wide(parents[w]);
@@ -46,16 +46,15 @@ pub fn second_children(n: usize, parents: &[u32; 128], after: &[u32; 128]) -> [u
         w -= 1;
     }
     out[0] = 0;
-    out
 }
 
 // The lowest child of each, 0 where there is none.
-pub fn first_children(n: usize, parents: &[u32; 128]) -> [u32; 128]
-    requires { ⌜ n ≤ 127 ⌝ }
-    ensures { λ r. ⌜ r ≡ firstChildren n (now (parents .entry)) ⌝ }
+pub fn first_children(n: usize, parents: &[u32; 128], out: &mut [u32; 128])
+    requires { ⌜ (n ≤ 127) × (now out ≡ zeros) ⌝ }
+    ensures { λ _. ⌜ now (out .exit) ≡ firstChildren n (now (parents .entry)) ⌝ }
 {
     let none = [0u32; 128];
-    second_children(n, parents, &none)
+    second_children(n, parents, &none, out);
 }
 
 // Child v + 1 counts at its parent, the children up to v being counted.
@@ -70,16 +69,14 @@ pub fn count_next(n: usize, parents: &[u32; 128], v: usize, out: &mut [u32; 128]
 }
 
 // How many children each has.
-pub fn child_counts(n: usize, parents: &[u32; 128]) -> [u32; 128]
-    requires { ⌜ n ≤ 127 ⌝ }
-    ensures { λ r. ⌜ r ≡ childCounts n (now (parents .entry)) ⌝ }
+pub fn child_counts(n: usize, parents: &[u32; 128], out: &mut [u32; 128])
+    requires { ⌜ (n ≤ 127) × (now out ≡ zeros) ⌝ }
+    ensures { λ _. ⌜ now (out .exit) ≡ childCounts n (now (parents .entry)) ⌝ }
 {
-    let mut out = [0u32; 128];
     let mut v: usize = 0;
     while v < n {
-        count_next(n, parents, v, &mut out);
+        count_next(n, parents, v, out);
         v += 1;
     }
     out[0] = 0;
-    out
 }

@@ -3,7 +3,7 @@ ghost use mathlib.Core.Path.{_≡_};
 ghost use mathlib.Core.Logic.{_≢_};
 ghost use Prim.Native.Nat.{ℕ, _+_, _-_, _*_, _≤_, _<_};
 ghost use lib.ListN.{length, drop};
-ghost use Rattle.finite.specs.Tables.{at};
+ghost use Rattle.finite.specs.Tables.{at, zeros};
 ghost use Rattle.finite.specs.Tests.{tally};
 ghost use Rattle.topology.specs.Tables.{rankFrom};
 ghost use Rattle.histories.specs.Histories.{_⊓_, then, both, resting, leaf, leastOver};
@@ -522,18 +522,16 @@ fn key_of(rank: u32, v: usize) -> u32
     rank * 128 + ((127 - v) as u32)
 }
 
-fn keys(n: usize, secondary: &[u32; 128], stamp: &[u32; 128]) -> [u32; 128]
-    requires { ⌜ (n ≤ 127) × ((v : ℕ) → at (now stamp) v < 1000000) ⌝ }
-    ensures { λ r. ⌜ r ≡ keysOf n (now (secondary .entry)) (now (stamp .entry)) ⌝ }
+fn keys(n: usize, secondary: &[u32; 128], stamp: &[u32; 128], out: &mut [u32; 128])
+    requires { ⌜ (n ≤ 127) × ((v : ℕ) → at (now stamp) v < 1000000) × (now out ≡ zeros) ⌝ }
+    ensures { λ _. ⌜ now (out .exit) ≡ keysOf n (now (secondary .entry)) (now (stamp .entry)) ⌝ }
 {
-    let mut out = [0u32; 128];
     let mut v: usize = 0;
     while v < n {
         let w = v + 1;
         out[w] = key_of(rank_from(secondary[w], stamp[w]), w);
         v = w;
     }
-    out
 }
 
 // 1 where node u comes before node v: its key is higher.
@@ -563,11 +561,10 @@ fn place(n: usize, key: &[u32; 128], v: usize) -> usize
 }
 
 // The nodes in an order in which arcs out come first.
-fn order_of(n: usize, key: &[u32; 128]) -> [u32; 128]
-    requires { ⌜ (n ≤ 127) × Apart n (now key) ⌝ }
-    ensures { λ r. ⌜ Placed n (now (key .entry)) r n ⌝ }
+fn order_of(n: usize, key: &[u32; 128], out: &mut [u32; 128])
+    requires { ⌜ (n ≤ 127) × Apart n (now key) × (now out ≡ zeros) ⌝ }
+    ensures { λ _. ⌜ Placed n (now (key .entry)) (now (out .exit)) n ⌝ }
 {
-    let mut out = [0u32; 128];
     let mut v: usize = 0;
     while v < n {
         let w = v + 1;
@@ -575,7 +572,6 @@ fn order_of(n: usize, key: &[u32; 128]) -> [u32; 128]
         out[p] = w as u32;
         v = w;
     }
-    out
 }
 
 // Fills the table of least costs in the scratch, and returns the least cost over all histories of gene 1.
@@ -595,11 +591,16 @@ pub fn fill(
     ensures { λ r. ⌜ WholeNetwork (familyOf (h .nodes) (now (principal .entry)) (now (secondary .entry)) (now (species .entry)) (h .genes) (now (left .entry)) (now (right .entry)) (now (kind .entry)) (h .duplication) (h .transfer) (h .loss)) (now (scratch .entry)) (now (scratch .exit)) r ⌝ }
 {
     let n = h.nodes;
-    let key = keys(n, secondary, stamp);
-    let order = order_of(n, &key);
-    let first = tables::first_children(n, principal);
-    let second = tables::second_children(n, principal, &first);
-    let other = tables::first_children(n, secondary);
+    let mut key = [0u32; 128];
+    keys(n, secondary, stamp, &mut key);
+    let mut order = [0u32; 128];
+    order_of(n, &key, &mut order);
+    let mut first = [0u32; 128];
+    tables::first_children(n, principal, &mut first);
+    let mut second = [0u32; 128];
+    tables::second_children(n, principal, &first, &mut second);
+    let mut other = [0u32; 128];
+    tables::first_children(n, secondary, &mut other);
     fill_rows(
         h,
         &order,

@@ -14,17 +14,18 @@ use Rattle.gene_tree.proofs.leaf_of.Reads as leaf-of-reads
 use Rattle.tables.proofs.first_children.Reads as first-children-reads
 
 abbrev Inv-loop : tie.InvT-loop
-Inv-loop m species n borne bearers out₀ g₀ out g = (g ≤ m) × (out ≡ filled g zeros (leafOf n species borne))
+Inv-loop m species n borne out₀ bearers g₀ out g = (g ≤ m) × (out ≡ filled g zeros (leafOf n species borne))
 
 abbrev μ-loop : tie.MeasureT-loop
-μ-loop m species n borne bearers out₀ g₀ out g = m - g
+μ-loop m species n borne out₀ bearers g₀ out g = m - g
 
 first-children-requires : tie.Need-first-children-requires Inv-loop μ-loop
+unfolding zeros
 first-children-requires c κs = search needs
 
 loop-holds : tie.Need-loop-holds Inv-loop μ-loop
-unfolding zeros
-loop-holds c = search (needs, fill-loop)
+unfolding filled
+loop-holds c = search needs
 
 add-w : tie.Need-add-w Inv-loop μ-loop
 add-w c = search needs
@@ -35,8 +36,8 @@ leaf-of-requires c κs = search needs
 mul-out : tie.Need-mul-out Inv-loop μ-loop
 mul-out c = search needs
 
-array-write-out : tie.Need-array-write-out Inv-loop μ-loop
-array-write-out c = search needs
+element-write-out : tie.Need-element-write-out Inv-loop μ-loop
+element-write-out c = search needs
 
 loop-less : tie.Need-loop-less Inv-loop μ-loop
 loop-less c = search needs
@@ -59,7 +60,7 @@ leaf-nodes-spec =
     add-w
     leaf-of-requires
     mul-out
-    array-write-out
+    element-write-out
     loop-less
     loop-again
     returns)

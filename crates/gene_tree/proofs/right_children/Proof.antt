@@ -5,9 +5,6 @@ use borrow.Author.Needs.{needs}
 use Rattle.gene_tree.proofs.right_children.Statement.{statement}
 use Rattle.gene_tree.proofs.right_children.Tie as tie
 
-first-children-requires : tie.Need-first-children-requires
-first-children-requires c κs = search needs
-
 second-children-requires : tie.Need-second-children-requires
 second-children-requires c κs = search needs
 
@@ -15,4 +12,4 @@ returns : tie.Need-returns
 returns c = search (needs, right-is)
 
 pub right-children-spec : {M : Type 1} → statement M
-right-children-spec = tie.close (tie.spec first-children-requires second-children-requires returns)
+right-children-spec = tie.close (tie.spec second-children-requires returns)

@@ -5,6 +5,7 @@ use Prim.Native.Nat.{_-_, _≤_}
 use mathlib.Core.Path.{_≡_}
 use mathlib.Core.Bool.{true}
 use Rattle.finite.specs.Range.{every}
+use Rattle.finite.specs.Tables.{zeros}
 use Rattle.finite.proofs.Every.{every-loop}
 use Rattle.gene_tree.specs.Refusals.{seatFits, seatsFit}
 use Rattle.gene_tree.proofs.Tables.{seat-at}
@@ -23,6 +24,7 @@ abbrev μ-loop : tie.MeasureT-loop
 μ-loop n m parent counts species borne bearers g₀ g = m - g
 
 first-children-requires : tie.Need-first-children-requires Inv-loop μ-loop
+unfolding zeros
 first-children-requires c κs = search needs
 
 loop-holds : tie.Need-loop-holds Inv-loop μ-loop

@@ -1,5 +1,6 @@
 -- `gene_tree::verdict` meets its contract. What the two callees tell settles the definition.
 -- Assumes nothing.
+use Rattle.finite.specs.Tables.{zeros}
 use Rattle.finite.proofs.Tests.{told-not-yes, told-not-no}
 use Rattle.gene_tree.specs.Refusals.{geneVerdict}
 use borrow.Author.Needs.{needs}
@@ -7,6 +8,7 @@ use Rattle.gene_tree.proofs.verdict.Statement.{statement}
 use Rattle.gene_tree.proofs.verdict.Tie as tie
 
 child-counts-requires : tie.Need-child-counts-requires
+unfolding zeros
 child-counts-requires c κs = search needs
 
 tree-fits-requires : tie.Need-tree-fits-requires

@@ -22,8 +22,8 @@ abbrev μ-loop : tie.MeasureT-loop
 μ-loop n up on height m left right leaf mother place sent out₀ g₀ out g = m - g
 
 loop-holds : tie.Need-loop-holds Inv-loop μ-loop
-unfolding zeros
-loop-holds c = search (needs, fill-loop)
+unfolding filled
+loop-holds c = search needs
 
 add-w : tie.Need-add-w Inv-loop μ-loop
 add-w c = search needs
@@ -37,8 +37,8 @@ event-at-requires c κs =
 mul-out : tie.Need-mul-out Inv-loop μ-loop
 mul-out c = search needs
 
-array-write-out : tie.Need-array-write-out Inv-loop μ-loop
-array-write-out c = search needs
+element-write-out : tie.Need-element-write-out Inv-loop μ-loop
+element-write-out c = search needs
 
 loop-less : tie.Need-loop-less Inv-loop μ-loop
 loop-less c = search needs
@@ -63,7 +63,7 @@ events-spec =
     add-w
     event-at-requires
     mul-out
-    array-write-out
+    element-write-out
     loop-less
     loop-again
     returns)

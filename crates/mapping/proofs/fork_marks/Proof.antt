@@ -11,14 +11,14 @@ use Rattle.mapping.proofs.fork_marks.Statement.{statement}
 use Rattle.mapping.proofs.fork_marks.Tie as tie
 
 abbrev Inv-loop : tie.InvT-loop
-Inv-loop arcs out₀ v₀ out v = (v ≤ 127) × (out ≡ filled v zeros (forkMark arcs))
+Inv-loop n arcs out₀ v₀ out v = (v ≤ n) × (out ≡ filled v zeros (forkMark arcs))
 
 abbrev μ-loop : tie.MeasureT-loop
-μ-loop arcs out₀ v₀ out v = 127 - v
+μ-loop n arcs out₀ v₀ out v = n - v
 
 loop-holds : tie.Need-loop-holds Inv-loop μ-loop
-unfolding zeros
-loop-holds c = search (needs, fill-loop)
+unfolding filled
+loop-holds c = search needs
 
 add-w : tie.Need-add-w Inv-loop μ-loop
 add-w c = search needs
@@ -35,8 +35,8 @@ fork-mark-requires c κs = search needs
 mul-out : tie.Need-mul-out Inv-loop μ-loop
 mul-out c = search needs
 
-array-write-out : tie.Need-array-write-out Inv-loop μ-loop
-array-write-out c = search needs
+element-write-out : tie.Need-element-write-out Inv-loop μ-loop
+element-write-out c = search needs
 
 loop-less : tie.Need-loop-less Inv-loop μ-loop
 loop-less c = search needs
@@ -61,7 +61,7 @@ fork-marks-spec =
     element-copy-out-fork-mark
     fork-mark-requires
     mul-out
-    array-write-out
+    element-write-out
     loop-less
     loop-again
     returns)

@@ -107,7 +107,7 @@ mul-fork-mark c =
     let x = c .before .before .before .before .before .wide3 .ensures in
     let b = c .before .before .before .wide4 .ensures in
     let y = c .before .wide5 .ensures in
-    omega (arith, pair-left-in _ _ _ _ (s .0) _ (s .1 .0 .0) _ _ _ _ (s .1 .1 .1) d _ _ _ _ a x b y)
+    omega (arith, s .0 .few, pair-left-in _ _ _ _ (s .0) _ (s .1 .0 .0) _ _ _ _ (s .1 .1 .1) d _ _ _ _ a x b y)
 
 element-copy-out-fork-mark : tie.Need-element-copy-out-fork-mark
 element-copy-out-fork-mark c =
@@ -117,7 +117,7 @@ element-copy-out-fork-mark c =
     let x = c .before .before .before .before .before .wide3 .ensures in
     let b = c .before .before .before .wide4 .ensures in
     let y = c .before .wide5 .ensures in
-    omega (arith, pair-left-in _ _ _ _ (s .0) _ (s .1 .0 .0) _ _ _ _ (s .1 .1 .1) d _ _ _ _ a x b y)
+    omega (arith, s .0 .few, pair-left-in _ _ _ _ (s .0) _ (s .1 .0 .0) _ _ _ _ (s .1 .1 .1) d _ _ _ _ a x b y)
 
 fork-mark-requires : tie.Need-fork-mark-requires
 fork-mark-requires c κs = search needs
@@ -136,7 +136,7 @@ mul-fork-mark-2 c =
     let x = c .before .before .before .before .before .before .before .before .wide3 .ensures in
     let b = c .before .before .before .before .before .before .wide4 .ensures in
     let y = c .before .before .before .before .wide5 .ensures in
-    omega (arith, pair-right-in _ _ _ _ (s .0) _ (s .1 .0 .0) _ _ _ _ (s .1 .1 .1) d _ _ _ _ a x b y)
+    omega (arith, s .0 .few, pair-right-in _ _ _ _ (s .0) _ (s .1 .0 .0) _ _ _ _ (s .1 .1 .1) d _ _ _ _ a x b y)
 
 element-copy-out-fork-mark-2 : tie.Need-element-copy-out-fork-mark-2
 element-copy-out-fork-mark-2 c =
@@ -146,7 +146,7 @@ element-copy-out-fork-mark-2 c =
     let x = c .before .before .before .before .before .before .before .before .wide3 .ensures in
     let b = c .before .before .before .before .before .before .wide4 .ensures in
     let y = c .before .before .before .before .wide5 .ensures in
-    omega (arith, pair-right-in _ _ _ _ (s .0) _ (s .1 .0 .0) _ _ _ _ (s .1 .1 .1) d _ _ _ _ a x b y)
+    omega (arith, s .0 .few, pair-right-in _ _ _ _ (s .0) _ (s .1 .0 .0) _ _ _ _ (s .1 .1 .1) d _ _ _ _ a x b y)
 
 fork-mark-requires-2 : tie.Need-fork-mark-requires-2
 fork-mark-requires-2 c κs = search needs
@@ -168,8 +168,8 @@ pair-charge-requires c κs =
     let q = c .before .before .before .before .before .before .meet .ensures in
     let f = c .before .before .before .before .fork-mark .ensures in
     let h = c .before .fork-mark2 .ensures in
-    let fx = fork-here (c .before .before .before .before .before .before .before .before .before .before .before .before .before .before .before .before .before .args .arcs .now) _ _ (pair-left-low _ _ _ _ (s .0) _ (s .1 .0 .0) _ _ _ _ (s .1 .1 .1) d _ _ _ _ a x b y) (pair-left-in _ _ _ _ (s .0) _ (s .1 .0 .0) _ _ _ _ (s .1 .1 .1) d _ _ _ _ a x b y) f in
-    let fy = fork-here (c .before .before .before .before .before .before .before .before .before .before .before .before .before .before .before .before .before .args .arcs .now) _ _ (pair-right-low _ _ _ _ (s .0) _ (s .1 .0 .0) _ _ _ _ (s .1 .1 .1) d _ _ _ _ a x b y) (pair-right-in _ _ _ _ (s .0) _ (s .1 .0 .0) _ _ _ _ (s .1 .1 .1) d _ _ _ _ a x b y) h in
+    let fx = fork-here _ (c .before .before .before .before .before .before .before .before .before .before .before .before .before .before .before .before .before .args .arcs .now) _ _ (s .0 .few) (pair-left-low _ _ _ _ (s .0) _ (s .1 .0 .0) _ _ _ _ (s .1 .1 .1) d _ _ _ _ a x b y) (pair-left-in _ _ _ _ (s .0) _ (s .1 .0 .0) _ _ _ _ (s .1 .1 .1) d _ _ _ _ a x b y) f in
+    let fy = fork-here _ (c .before .before .before .before .before .before .before .before .before .before .before .before .before .before .before .before .before .args .arcs .now) _ _ (s .0 .few) (pair-right-low _ _ _ _ (s .0) _ (s .1 .0 .0) _ _ _ _ (s .1 .1 .1) d _ _ _ _ a x b y) (pair-right-in _ _ _ _ (s .0) _ (s .1 .0 .0) _ _ _ _ (s .1 .1 .1) d _ _ _ _ a x b y) h in
     (s .1 .0 .0 .duplication, s .1 .0 .0 .loss, rw fx (pair-pass _ _ _ _ (s .0) _ (s .1 .0 .0) _ _ _ _ (s .1 .1 .1) d _ _ _ _ a x b y _ _ (forks-told _ _ _ (s .1 .0 .1)) (s .1 .0 .2) _), rw fy (pair-pass _ _ _ _ (s .0) _ (s .1 .0 .0) _ _ _ _ (s .1 .1 .1) d _ _ _ _ a x b y _ _ (forks-told _ _ _ (s .1 .0 .1)) (s .1 .0 .2) _), q .small, rw (fx, fy) (pair-skips _ _ _ _ (s .0) _ (s .1 .0 .0) _ _ _ _ (s .1 .1 .1) d _ _ _ _ a x b y _ _ (forks-told _ _ _ (s .1 .0 .1)) (s .1 .0 .2) _ _ q))
 
 returns-2 : tie.Need-returns-2
@@ -184,8 +184,8 @@ returns-2 c =
     let f = c .before .before .before .before .before .fork-mark .ensures in
     let h = c .before .before .fork-mark2 .ensures in
     let e = c .pair-charge .ensures in
-    let fx = fork-here (c .before .before .before .before .before .before .before .before .before .before .before .before .before .before .before .before .before .before .args .arcs .now) _ _ (pair-left-low _ _ _ _ (s .0) _ (s .1 .0 .0) _ _ _ _ (s .1 .1 .1) d _ _ _ _ a x b y) (pair-left-in _ _ _ _ (s .0) _ (s .1 .0 .0) _ _ _ _ (s .1 .1 .1) d _ _ _ _ a x b y) f in
-    let fy = fork-here (c .before .before .before .before .before .before .before .before .before .before .before .before .before .before .before .before .before .before .args .arcs .now) _ _ (pair-right-low _ _ _ _ (s .0) _ (s .1 .0 .0) _ _ _ _ (s .1 .1 .1) d _ _ _ _ a x b y) (pair-right-in _ _ _ _ (s .0) _ (s .1 .0 .0) _ _ _ _ (s .1 .1 .1) d _ _ _ _ a x b y) h in
+    let fx = fork-here _ (c .before .before .before .before .before .before .before .before .before .before .before .before .before .before .before .before .before .before .args .arcs .now) _ _ (s .0 .few) (pair-left-low _ _ _ _ (s .0) _ (s .1 .0 .0) _ _ _ _ (s .1 .1 .1) d _ _ _ _ a x b y) (pair-left-in _ _ _ _ (s .0) _ (s .1 .0 .0) _ _ _ _ (s .1 .1 .1) d _ _ _ _ a x b y) f in
+    let fy = fork-here _ (c .before .before .before .before .before .before .before .before .before .before .before .before .before .before .before .before .before .before .args .arcs .now) _ _ (s .0 .few) (pair-right-low _ _ _ _ (s .0) _ (s .1 .0 .0) _ _ _ _ (s .1 .1 .1) d _ _ _ _ a x b y) (pair-right-in _ _ _ _ (s .0) _ (s .1 .0 .0) _ _ _ _ (s .1 .1 .1) d _ _ _ _ a x b y) h in
     charged-pair _ _ _ _ (s .0) _ (s .1 .0 .0) _ _ _ _ (s .1 .1 .1) d _ _ _ _ a x b y _ _ (forks-told _ _ _ (s .1 .0 .1)) (s .1 .0 .2) _ _ q _ _ (rw (fx, fy) at e)
 
 pub place-and-charge-spec : {M : Type 1} → statement M

@@ -1,9 +1,8 @@
 -- `mapping::places` meets its contract. The invariant: the genes passed, from the highest down, have their places.
 -- Assumes nothing.
 use Prim.Native.Nat.{_-_, _≤_}
-use Rattle.gene_tree.specs.Genes.{zeros}
 use Rattle.mapping.specs.Switched.{switchedOf}
-use Rattle.mapping.proofs.Placing.{PlacedFrom, place-loop}
+use Rattle.mapping.proofs.Placing.{PlacedFrom, place-start, place-loop}
 use borrow.Author.Needs.{needs}
 use Rattle.mapping.proofs.places.Statement.{statement}
 use Rattle.mapping.proofs.places.Tie as tie
@@ -15,8 +14,7 @@ abbrev μ-loop : tie.MeasureT-loop
 μ-loop n up on height m left right leaf mother out₀ g₀ out g = g
 
 loop-holds : tie.Need-loop-holds Inv-loop μ-loop
-unfolding zeros
-loop-holds c = search (needs, place-loop)
+loop-holds c = let s = c .pre in (search needs, rw (s .1 .1) (place-start _ _ _ _ _ _ _ _ _ (s .0) (s .1 .0)))
 
 place-of-requires : tie.Need-place-of-requires Inv-loop μ-loop
 place-of-requires c κs = (search needs, (search needs, search (needs, place-loop)))
@@ -24,8 +22,8 @@ place-of-requires c κs = (search needs, (search needs, search (needs, place-loo
 mul-out : tie.Need-mul-out Inv-loop μ-loop
 mul-out c = search needs
 
-array-write-out : tie.Need-array-write-out Inv-loop μ-loop
-array-write-out c = search needs
+element-write-out : tie.Need-element-write-out Inv-loop μ-loop
+element-write-out c = search needs
 
 sub-g : tie.Need-sub-g Inv-loop μ-loop
 sub-g c = search needs
@@ -48,7 +46,7 @@ places-spec =
     loop-holds
     place-of-requires
     mul-out
-    array-write-out
+    element-write-out
     sub-g
     loop-less
     loop-again

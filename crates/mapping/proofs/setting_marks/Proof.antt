@@ -12,10 +12,10 @@ use Rattle.mapping.proofs.setting_marks.Statement.{statement}
 use Rattle.mapping.proofs.setting_marks.Tie as tie
 
 abbrev Inv-loop : tie.InvT-loop
-Inv-loop n secondary top members index c x k out₀ v₀ out v = (v ≤ n) × (out ≡ filled v zeros (markAt x k c secondary top index))
+Inv-loop n secondary top members index c x out₀ k v₀ out v = (v ≤ n) × (out ≡ filled v zeros (markAt x k c secondary top index))
 
 abbrev μ-loop : tie.MeasureT-loop
-μ-loop n secondary top members index c x k out₀ v₀ out v = n - v
+μ-loop n secondary top members index c x out₀ k v₀ out v = n - v
 
 mul-k : tie.Need-mul-k Inv-loop μ-loop
 mul-k c = search needs
@@ -24,8 +24,8 @@ element-copy-out-k : tie.Need-element-copy-out-k Inv-loop μ-loop
 element-copy-out-k c = search needs
 
 loop-holds : tie.Need-loop-holds Inv-loop μ-loop
-unfolding zeros
-loop-holds c = search (needs, fill-loop)
+unfolding filled
+loop-holds c = search needs
 
 add-w : tie.Need-add-w Inv-loop μ-loop
 add-w c = search needs
@@ -56,8 +56,8 @@ mark-of-requires c κs =
 mul-out : tie.Need-mul-out Inv-loop μ-loop
 mul-out c = search needs
 
-array-write-out : tie.Need-array-write-out Inv-loop μ-loop
-array-write-out c = search needs
+element-write-out : tie.Need-element-write-out Inv-loop μ-loop
+element-write-out c = search needs
 
 loop-less : tie.Need-loop-less Inv-loop μ-loop
 loop-less c = search needs
@@ -88,7 +88,7 @@ setting-marks-spec =
     element-copy-out-mark-of-3
     mark-of-requires
     mul-out
-    array-write-out
+    element-write-out
     loop-less
     loop-again
     returns)

@@ -20,8 +20,8 @@ abbrev μ-loop : tie.MeasureT-loop
 μ-loop n up on height m left right leaf mother place out₀ g₀ out g = m - g
 
 loop-holds : tie.Need-loop-holds Inv-loop μ-loop
-unfolding zeros
-loop-holds c = search (needs, fill-loop)
+unfolding filled
+loop-holds c = search needs
 
 add-w : tie.Need-add-w Inv-loop μ-loop
 add-w c = search needs
@@ -29,13 +29,13 @@ add-w c = search needs
 transfers-of-requires : tie.Need-transfers-of-requires Inv-loop μ-loop
 transfers-of-requires c κs =
     let s = c .before .before in
-    (s .pre .0, (search needs, table-coming _ _ _ _ _ _ _ _ _ (s .pre .0) (s .pre .1 .0) _ (s .pre .1 .1) (c .before .loop .g + 1)))
+    (s .pre .0, (search needs, table-coming _ _ _ _ _ _ _ _ _ (s .pre .0) (s .pre .1 .0) _ (s .pre .1 .1 .0) (c .before .loop .g + 1)))
 
 mul-out : tie.Need-mul-out Inv-loop μ-loop
 mul-out c = search needs
 
-array-write-out : tie.Need-array-write-out Inv-loop μ-loop
-array-write-out c = search needs
+element-write-out : tie.Need-element-write-out Inv-loop μ-loop
+element-write-out c = search needs
 
 loop-less : tie.Need-loop-less Inv-loop μ-loop
 loop-less c = search needs
@@ -44,7 +44,7 @@ loop-again : tie.Need-loop-again Inv-loop μ-loop
 loop-again c =
     let s = c .before .before .before in
     let l = c .before .before .loop in
-    (search needs, filled-more _ _ _ _ _ (l .inv .1) (table-transfers _ _ _ _ _ _ _ _ _ (s .pre .0) (s .pre .1 .0) _ (s .pre .1 .1) _ _ (c .transfers-of .ensures)))
+    (search needs, filled-more _ _ _ _ _ (l .inv .1) (table-transfers _ _ _ _ _ _ _ _ _ (s .pre .0) (s .pre .1 .0) _ (s .pre .1 .1 .0) _ _ (c .transfers-of .ensures)))
 
 returns : tie.Need-returns Inv-loop μ-loop
 unfolding transferTable
@@ -60,7 +60,7 @@ transfers-spec =
     add-w
     transfers-of-requires
     mul-out
-    array-write-out
+    element-write-out
     loop-less
     loop-again
     returns)

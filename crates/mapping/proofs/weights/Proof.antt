@@ -16,69 +16,54 @@ use Rattle.mapping.proofs.weights.Lts as lts
 use Rattle.mapping.proofs.fork_mark.Reads as fork-mark-reads
 
 abbrev Inv-loop : tie.InvT-loop
-Inv-loop n on arcs u out₀ v₀ out v = (v ≤ n) × (out ≡ filled v zeros (λ w. u .transfer * at on w + u .loss * at (forkTable arcs) w))
+Inv-loop n on arcs u out₀ v₀ out v = (v ≤ n) × (out ≡ filled v zeros (λ w. u .transfer * at on w + u .loss * at (forkTable n arcs) w))
 
 abbrev μ-loop : tie.MeasureT-loop
 μ-loop n on arcs u out₀ v₀ out v = n - v
 
--- src/lib.rt:652:5
 loop-holds : tie.Need-loop-holds Inv-loop μ-loop
-unfolding zeros
-loop-holds c = search (needs, fill-loop)
+unfolding filled
+loop-holds c = search needs
 
--- src/lib.rt:653:17
 add-w : tie.Need-add-w Inv-loop μ-loop
 add-w c = search needs
 
--- src/lib.rt:654:31
 mul-out : tie.Need-mul-out Inv-loop μ-loop
 mul-out c = search needs
 
--- src/lib.rt:654:31
 element-copy-out-out : tie.Need-element-copy-out-out Inv-loop μ-loop
 element-copy-out-out c = search needs
 
--- src/lib.rt:654:18
 mul-out-2 : tie.Need-mul-out-2 Inv-loop μ-loop
 mul-out-2 c = let s = c .before .before .before .before .pre in omega (arith, product-fits _ _ (s .1 .transfer) (s .2 (c .before .before .before .loop .v + 1)))
 
--- src/lib.rt:654:58
 mul-fork-mark : tie.Need-mul-fork-mark Inv-loop μ-loop
 mul-fork-mark c = search needs
 
--- src/lib.rt:654:58
 element-copy-out-fork-mark : tie.Need-element-copy-out-fork-mark Inv-loop μ-loop
 element-copy-out-fork-mark c = search needs
 
--- src/lib.rt:654:48
 fork-mark-requires : tie.Need-fork-mark-requires Inv-loop μ-loop
 fork-mark-requires c κs = search needs
 
--- src/lib.rt:654:39
 mul-out-3 : tie.Need-mul-out-3 Inv-loop μ-loop
 mul-out-3 c = let s = c .before .before .before .before .before .before .before .pre in omega (arith, product-fits _ (c .before .fork-mark .result) (s .1 .loss) (marked-low _ _ (c .before .fork-mark .ensures)))
 
--- src/lib.rt:654:18
 add-out : tie.Need-add-out Inv-loop μ-loop
 add-out c = let s = c .before .before .before .before .before .before .before .pre in omega (arith, product-fits _ _ (s .1 .transfer) (s .2 (c .before .before .before .before .before .before .loop .v + 1)), product-fits _ (c .before .fork-mark .result) (s .1 .loss) (marked-low _ _ (c .before .fork-mark .ensures)))
 
--- src/lib.rt:654:9
 mul-out-4 : tie.Need-mul-out-4 Inv-loop μ-loop
 mul-out-4 c = search needs
 
--- src/lib.rt:654:9
-array-write-out : tie.Need-array-write-out Inv-loop μ-loop
-array-write-out c = search needs
+element-write-out : tie.Need-element-write-out Inv-loop μ-loop
+element-write-out c = search needs
 
--- src/lib.rt:652:5
 loop-less : tie.Need-loop-less Inv-loop μ-loop
 loop-less c = search needs
 
--- src/lib.rt:652:5
 loop-again : tie.Need-loop-again Inv-loop μ-loop
-loop-again c = let s = c .before .before .before .before .before .before .before in let l = c .before .before .before .before .before .before .loop in (search needs, filled-more (l .v) zeros (l .out) (λ w. s .args .u .transfer * at (s .args .on .now) w + s .args .u .loss * at (forkTable (s .args .arcs .now)) w) _ (l .inv .1) (ap (λ (k : ℕ). s .args .u .transfer * at (s .args .on .now) (l .v + 1) + s .args .u .loss * k) (fork-here (s .args .arcs .now) (l .v + 1) (c .before .fork-mark .result) (omega arith) (omega (arith, s .pre .0)) (c .before .fork-mark .ensures))))
+loop-again c = let s = c .before .before .before .before .before .before .before in let l = c .before .before .before .before .before .before .loop in (search needs, filled-more (l .v) zeros (l .out) (λ w. s .args .u .transfer * at (s .args .on .now) w + s .args .u .loss * at (forkTable (s .args .n) (s .args .arcs .now)) w) _ (l .inv .1) (ap (λ (k : ℕ). s .args .u .transfer * at (s .args .on .now) (l .v + 1) + s .args .u .loss * k) (fork-here (s .args .n) (s .args .arcs .now) (l .v + 1) (c .before .fork-mark .result) (s .pre .0) (omega arith) (omega arith) (c .before .fork-mark .ensures))))
 
--- src/lib.rt:646:1
 returns : tie.Need-returns Inv-loop μ-loop
 unfolding weightTable
 returns c = search (needs, fill-loop)
@@ -100,7 +85,7 @@ weights-spec =
     mul-out-3
     add-out
     mul-out-4
-    array-write-out
+    element-write-out
     loop-less
     loop-again
     returns)

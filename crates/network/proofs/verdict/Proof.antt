@@ -1,5 +1,7 @@
 -- Each return stands behind the refusals before it; 8, 9 and 10 read the tables of arcs out, counted once. Where 6, 7 and 8 have passed the network is sound, which the climbs of 11 ask.
 -- Assumes nothing.
+use native.Mathlib.Omega.{arith}
+use Rattle.finite.specs.Tables.{zeros}
 use Rattle.finite.proofs.Tests.{told}
 use Rattle.network.proofs.Acceptance.{sound}
 use Rattle.network.proofs.Verdicts.{verdict-is-6, verdict-is-7, verdict-is-8, verdict-is-9, verdict-is-10, verdict-is-11, verdict-is-0}
@@ -11,46 +13,82 @@ six-requires : tie.Need-six-requires
 six-requires c κs = search needs
 
 returns : tie.Need-returns
-returns c = verdict-is-6 _ _ _ _ _ (told _ _ _ (c .before .six .ensures) (c .if1 .taken))
+returns c =
+    let t6 = told _ _ _ (c .before .six .ensures) (c .if1 .taken) in
+    (verdict-is-6 _ _ _ _ _ t6, λ z. absurd (omega (arith, z)))
 
 seven-requires : tie.Need-seven-requires
-seven-requires c κs = (search needs, (told _ _ _ (c .before .six .ensures) (c .if1 .left)))
+seven-requires c κs = (search needs, told _ _ _ (c .before .six .ensures) (c .if1 .left))
 
 returns-2 : tie.Need-returns-2
-returns-2 c = verdict-is-7 _ _ _ _ _ (told _ _ _ (c .before .before .before .six .ensures) (c .before .before .if1 .left)) (told _ _ _ (c .before .seven .ensures) (c .if2 .taken))
+returns-2 c =
+    let t6 = told _ _ _ (c .before .before .before .six .ensures) (c .before .before .if1 .left) in
+    let t7 = told _ _ _ (c .before .seven .ensures) (c .if2 .taken) in
+    (verdict-is-7 _ _ _ _ _ t6 t7, λ z. absurd (omega (arith, z)))
 
 child-counts-requires : tie.Need-child-counts-requires
+unfolding zeros
 child-counts-requires c κs = search needs
 
 child-counts-requires-2 : tie.Need-child-counts-requires-2
+unfolding zeros
 child-counts-requires-2 c κs = search needs
 
 eight-requires : tie.Need-eight-requires
-eight-requires c κs = (search needs, record { first = c .before .before .before .child-counts .ensures; second = c .before .before .child-counts2 .ensures })
+eight-requires c κs = (search needs, record { first = c .before .before .before .before .child-counts .ensures; second = c .before .before .child-counts2 .ensures })
 
 returns-3 : tie.Need-returns-3
-returns-3 c = verdict-is-8 _ _ _ _ _ (told _ _ _ (c .before .before .before .before .before .before .before .before .before .six .ensures) (c .before .before .before .before .before .before .before .before .if1 .left)) (told _ _ _ (c .before .before .before .before .before .before .before .seven .ensures) (c .before .before .before .before .before .before .if2 .left)) (told _ _ _ (c .before .eight .ensures) (c .if3 .taken))
+returns-3 c =
+    let t6 = told _ _ _ (c .before .before .before .before .before .before .before .before .before .before .before .six .ensures) (c .before .before .before .before .before .before .before .before .before .before .if1 .left) in
+    let t7 = told _ _ _ (c .before .before .before .before .before .before .before .before .before .seven .ensures) (c .before .before .before .before .before .before .before .before .if2 .left) in
+    let t8 = told _ _ _ (c .before .eight .ensures) (c .if3 .taken) in
+    (verdict-is-8 _ _ _ _ _ t6 t7 t8, λ z. absurd (omega (arith, z)))
 
 nine-requires : tie.Need-nine-requires
-nine-requires c κs = (search needs, record { first = c .before .before .before .before .before .before .before .child-counts .ensures; second = c .before .before .before .before .before .before .child-counts2 .ensures })
+nine-requires c κs = (search needs, record { first = c .before .before .before .before .before .before .before .before .child-counts .ensures; second = c .before .before .before .before .before .before .child-counts2 .ensures })
 
 returns-4 : tie.Need-returns-4
-returns-4 c = verdict-is-9 _ _ _ _ _ (told _ _ _ (c .before .before .before .before .before .before .before .before .before .before .before .before .before .six .ensures) (c .before .before .before .before .before .before .before .before .before .before .before .before .if1 .left)) (told _ _ _ (c .before .before .before .before .before .before .before .before .before .before .before .seven .ensures) (c .before .before .before .before .before .before .before .before .before .before .if2 .left)) (told _ _ _ (c .before .before .before .before .before .eight .ensures) (c .before .before .before .before .if3 .left)) (told _ _ _ (c .before .nine .ensures) (c .if4 .taken))
+returns-4 c =
+    let t6 = told _ _ _ (c .before .before .before .before .before .before .before .before .before .before .before .before .before .before .before .six .ensures) (c .before .before .before .before .before .before .before .before .before .before .before .before .before .before .if1 .left) in
+    let t7 = told _ _ _ (c .before .before .before .before .before .before .before .before .before .before .before .before .before .seven .ensures) (c .before .before .before .before .before .before .before .before .before .before .before .before .if2 .left) in
+    let t8 = told _ _ _ (c .before .before .before .before .before .eight .ensures) (c .before .before .before .before .if3 .left) in
+    let t9 = told _ _ _ (c .before .nine .ensures) (c .if4 .taken) in
+    (verdict-is-9 _ _ _ _ _ t6 t7 t8 t9, λ z. absurd (omega (arith, z)))
 
 ten-requires : tie.Need-ten-requires
-ten-requires c κs = (search needs, record { first = c .before .before .before .before .before .before .before .before .before .before .before .child-counts .ensures; second = c .before .before .before .before .before .before .before .before .before .before .child-counts2 .ensures })
+ten-requires c κs = (search needs, record { first = c .before .before .before .before .before .before .before .before .before .before .before .before .child-counts .ensures; second = c .before .before .before .before .before .before .before .before .before .before .child-counts2 .ensures })
 
 returns-5 : tie.Need-returns-5
-returns-5 c = verdict-is-10 _ _ _ _ _ (told _ _ _ (c .before .before .before .before .before .before .before .before .before .before .before .before .before .before .before .before .before .six .ensures) (c .before .before .before .before .before .before .before .before .before .before .before .before .before .before .before .before .if1 .left)) (told _ _ _ (c .before .before .before .before .before .before .before .before .before .before .before .before .before .before .before .seven .ensures) (c .before .before .before .before .before .before .before .before .before .before .before .before .before .before .if2 .left)) (told _ _ _ (c .before .before .before .before .before .before .before .before .before .eight .ensures) (c .before .before .before .before .before .before .before .before .if3 .left)) (told _ _ _ (c .before .before .before .before .before .nine .ensures) (c .before .before .before .before .if4 .left)) (told _ _ _ (c .before .ten .ensures) (c .if5 .taken))
+returns-5 c =
+    let t6 = told _ _ _ (c .before .before .before .before .before .before .before .before .before .before .before .before .before .before .before .before .before .before .before .six .ensures) (c .before .before .before .before .before .before .before .before .before .before .before .before .before .before .before .before .before .before .if1 .left) in
+    let t7 = told _ _ _ (c .before .before .before .before .before .before .before .before .before .before .before .before .before .before .before .before .before .seven .ensures) (c .before .before .before .before .before .before .before .before .before .before .before .before .before .before .before .before .if2 .left) in
+    let t8 = told _ _ _ (c .before .before .before .before .before .before .before .before .before .eight .ensures) (c .before .before .before .before .before .before .before .before .if3 .left) in
+    let t9 = told _ _ _ (c .before .before .before .before .before .nine .ensures) (c .before .before .before .before .if4 .left) in
+    let t10 = told _ _ _ (c .before .ten .ensures) (c .if5 .taken) in
+    (verdict-is-10 _ _ _ _ _ t6 t7 t8 t9 t10, λ z. absurd (omega (arith, z)))
 
 eleven-requires : tie.Need-eleven-requires
-eleven-requires c κs = (search needs, sound _ _ _ _ (told _ _ _ (c .before .before .before .before .before .before .before .before .before .before .before .before .before .before .before .before .before .six .ensures) (c .before .before .before .before .before .before .before .before .before .before .before .before .before .before .before .before .if1 .left)) (told _ _ _ (c .before .before .before .before .before .before .before .before .before .before .before .before .before .before .before .seven .ensures) (c .before .before .before .before .before .before .before .before .before .before .before .before .before .before .if2 .left)) (told _ _ _ (c .before .before .before .before .before .before .before .before .before .eight .ensures) (c .before .before .before .before .before .before .before .before .if3 .left)))
+eleven-requires c κs = (c .before .before .before .before .before .before .before .before .before .before .before .before .before .before .before .before .before .before .before .before .before .before .pre, sound _ _ _ _ (told _ _ _ (c .before .before .before .before .before .before .before .before .before .before .before .before .before .before .before .before .before .before .before .before .before .six .ensures) (c .before .before .before .before .before .before .before .before .before .before .before .before .before .before .before .before .before .before .before .before .if1 .left)) (told _ _ _ (c .before .before .before .before .before .before .before .before .before .before .before .before .before .before .before .before .before .before .before .seven .ensures) (c .before .before .before .before .before .before .before .before .before .before .before .before .before .before .before .before .before .before .if2 .left)) (told _ _ _ (c .before .before .before .before .before .before .before .before .before .before .before .eight .ensures) (c .before .before .before .before .before .before .before .before .before .before .if3 .left)))
 
 returns-6 : tie.Need-returns-6
-returns-6 c = verdict-is-11 _ _ _ _ _ (told _ _ _ (c .before .before .before .before .before .before .before .before .before .before .before .before .before .before .before .before .before .before .before .six .ensures) (c .before .before .before .before .before .before .before .before .before .before .before .before .before .before .before .before .before .before .if1 .left)) (told _ _ _ (c .before .before .before .before .before .before .before .before .before .before .before .before .before .before .before .before .before .seven .ensures) (c .before .before .before .before .before .before .before .before .before .before .before .before .before .before .before .before .if2 .left)) (told _ _ _ (c .before .before .before .before .before .before .before .before .before .before .before .eight .ensures) (c .before .before .before .before .before .before .before .before .before .before .if3 .left)) (told _ _ _ (c .before .before .before .before .before .before .before .nine .ensures) (c .before .before .before .before .before .before .if4 .left)) (told _ _ _ (c .before .before .before .ten .ensures) (c .before .before .if5 .left)) (told _ _ _ (c .before .eleven .ensures) (c .if6 .taken))
+returns-6 c =
+    let t6 = told _ _ _ (c .before .before .before .before .before .before .before .before .before .before .before .before .before .before .before .before .before .before .before .before .before .before .before .six .ensures) (c .before .before .before .before .before .before .before .before .before .before .before .before .before .before .before .before .before .before .before .before .before .before .if1 .left) in
+    let t7 = told _ _ _ (c .before .before .before .before .before .before .before .before .before .before .before .before .before .before .before .before .before .before .before .before .before .seven .ensures) (c .before .before .before .before .before .before .before .before .before .before .before .before .before .before .before .before .before .before .before .before .if2 .left) in
+    let t8 = told _ _ _ (c .before .before .before .before .before .before .before .before .before .before .before .before .before .eight .ensures) (c .before .before .before .before .before .before .before .before .before .before .before .before .if3 .left) in
+    let t9 = told _ _ _ (c .before .before .before .before .before .before .before .before .before .nine .ensures) (c .before .before .before .before .before .before .before .before .if4 .left) in
+    let t10 = told _ _ _ (c .before .before .before .before .before .ten .ensures) (c .before .before .before .before .if5 .left) in
+    let t11 = told _ _ _ (c .before .eleven .ensures .0) (c .if6 .taken) in
+    (verdict-is-11 _ _ _ _ _ t6 t7 t8 t9 t10 t11, λ z. absurd (omega (arith, z)))
 
 returns-7 : tie.Need-returns-7
-returns-7 c = verdict-is-0 _ _ _ _ _ (told _ _ _ (c .before .before .before .before .before .before .before .before .before .before .before .before .before .before .before .before .before .before .before .six .ensures) (c .before .before .before .before .before .before .before .before .before .before .before .before .before .before .before .before .before .before .if1 .left)) (told _ _ _ (c .before .before .before .before .before .before .before .before .before .before .before .before .before .before .before .before .before .seven .ensures) (c .before .before .before .before .before .before .before .before .before .before .before .before .before .before .before .before .if2 .left)) (told _ _ _ (c .before .before .before .before .before .before .before .before .before .before .before .eight .ensures) (c .before .before .before .before .before .before .before .before .before .before .if3 .left)) (told _ _ _ (c .before .before .before .before .before .before .before .nine .ensures) (c .before .before .before .before .before .before .if4 .left)) (told _ _ _ (c .before .before .before .ten .ensures) (c .before .before .if5 .left)) (told _ _ _ (c .before .eleven .ensures) (c .if6 .left))
+returns-7 c =
+    let t6 = told _ _ _ (c .before .before .before .before .before .before .before .before .before .before .before .before .before .before .before .before .before .before .before .before .before .before .before .six .ensures) (c .before .before .before .before .before .before .before .before .before .before .before .before .before .before .before .before .before .before .before .before .before .before .if1 .left) in
+    let t7 = told _ _ _ (c .before .before .before .before .before .before .before .before .before .before .before .before .before .before .before .before .before .before .before .before .before .seven .ensures) (c .before .before .before .before .before .before .before .before .before .before .before .before .before .before .before .before .before .before .before .before .if2 .left) in
+    let t8 = told _ _ _ (c .before .before .before .before .before .before .before .before .before .before .before .before .before .eight .ensures) (c .before .before .before .before .before .before .before .before .before .before .before .before .if3 .left) in
+    let t9 = told _ _ _ (c .before .before .before .before .before .before .before .before .before .nine .ensures) (c .before .before .before .before .before .before .before .before .if4 .left) in
+    let t10 = told _ _ _ (c .before .before .before .before .before .ten .ensures) (c .before .before .before .before .if5 .left) in
+    let t11 = told _ _ _ (c .before .eleven .ensures .0) (c .if6 .left) in
+    (verdict-is-0 _ _ _ _ _ t6 t7 t8 t9 t10 t11, λ _. c .before .eleven .ensures .1)
 
 pub verdict-spec : {M : Type 1} → statement M
 verdict-spec =

@@ -22,49 +22,39 @@ Inv-loop n principal secondary stamp height top members index m left right leaf 
 abbrev μ-loop : tie.MeasureT-loop
 μ-loop n principal secondary stamp height top members index m left right leaf mother u k c tried now₀ x₀ now x = tried - x
 
--- src/lib.rt:186:13
 add-c : tie.Need-add-c Inv-loop μ-loop
 add-c c = search needs
 
--- src/lib.rt:187:29
 mul-settings-of : tie.Need-mul-settings-of Inv-loop μ-loop
 mul-settings-of c = search needs
 
--- src/lib.rt:187:29
 element-copy-out-settings-of : tie.Need-element-copy-out-settings-of Inv-loop μ-loop
 element-copy-out-settings-of c = search needs
 
--- src/lib.rt:187:9
 settings-of-requires : tie.Need-settings-of-requires Inv-loop μ-loop
 settings-of-requires c κs = let s = c .before .pre in few-by _ _ _ _ _ _ _ _ _ _ _ _ _ _ (s .0) _ (omega arith) (omega (arith, s .1 .0))
 
--- src/lib.rt:190:5
 loop-holds : tie.Need-loop-holds Inv-loop μ-loop
 loop-holds c = (omega arith, c .before .before .pre .1 .1)
 
--- src/lib.rt:191:9
 step-requires : tie.Need-step-requires Inv-loop μ-loop
 step-requires c κs =
     let s = c .before .before .before .before .pre in
     let e = c .before .before .settings-of .ensures in
     (s .0, (omega arith, omega (arith, s .1 .0), loop-awaits _ _ _ _ _ _ _ _ _ _ _ _ _ _ (s .0) _ _ _ _ (c .before .loop .inv .1) (s .1 .0) e (c .loop-test .taken)))
 
--- src/lib.rt:210:9
 add-x : tie.Need-add-x Inv-loop μ-loop
 add-x c = search needs
 
--- src/lib.rt:190:5
 loop-less : tie.Need-loop-less Inv-loop μ-loop
 loop-less c = search needs
 
--- src/lib.rt:190:5
 loop-again : tie.Need-loop-again Inv-loop μ-loop
 loop-again c =
     let s = c .before .before .before .before .before .pre in
     let e = c .before .before .before .settings-of .ensures in
     (search needs, loop-turn _ _ _ _ _ _ _ _ _ _ _ _ _ _ (s .0) _ _ _ _ (c .before .before .loop .inv .1) (s .1 .0) e (c .before .loop-test .taken) _ (c .step .ensures))
 
--- src/lib.rt:164:1
 returns : tie.Need-returns Inv-loop μ-loop
 returns c =
     let s = c .before .before .before .before .pre in

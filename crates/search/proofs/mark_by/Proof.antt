@@ -12,24 +12,19 @@ use Rattle.search.proofs.mark_by.Tie as tie
 use Rattle.search.proofs.mark_by.Reads as reads
 use Rattle.search.proofs.mark_by.Lts as lts
 
--- src/lib.rt:271:9
 returns : tie.Need-returns
 unfolding markBy
 returns c = rw (is-same (c .if1 .taken))
 
--- src/lib.rt:273:12
 sub-result : tie.Need-sub-result
 sub-result c = let l = c .before .pre .1 (c .if1 .left) in omega (arith, l)
 
--- src/lib.rt:273:12
 sub-result-2 : tie.Need-sub-result-2
 sub-result-2 c = let l = c .before .pre .1 (c .if1 .left) in omega (arith, l)
 
--- src/lib.rt:273:6
 shr-result : tie.Need-shr-result
 shr-result c = search needs
 
--- src/lib.rt:266:1
 returns-2 : tie.Need-returns-2
 unfolding markBy bitOf
 returns-2 c = let a = c .before .args in rw (not-same (c .if1 .left)) (and-mask (a .x / 2 ^ (a .k - 1 - a .j)) 1)

@@ -22,84 +22,65 @@ Inv-loop n bests secondary top members index out₀ v₀ out v = (v ≤ n) × (o
 abbrev μ-loop : tie.MeasureT-loop
 μ-loop n bests secondary top members index out₀ v₀ out v = n - v
 
--- src/lib.rt:290:5
 loop-holds : tie.Need-loop-holds Inv-loop μ-loop
-unfolding zeros
-loop-holds c = search (needs, fill-loop)
+unfolding filled
+loop-holds c = search needs
 
--- src/lib.rt:291:17
 add-w : tie.Need-add-w Inv-loop μ-loop
 add-w c = search needs
 
--- src/lib.rt:292:22
 mul-wide : tie.Need-mul-wide Inv-loop μ-loop
 mul-wide c = search needs
 
--- src/lib.rt:292:22
 element-copy-out-wide : tie.Need-element-copy-out-wide Inv-loop μ-loop
 element-copy-out-wide c = search needs
 
--- src/lib.rt:292:13
 wide-requires : tie.Need-wide-requires Inv-loop μ-loop
 wide-requires c κs = search needs
 
--- src/lib.rt:293:26
 mul-mark-by : tie.Need-mul-mark-by Inv-loop μ-loop
-mul-mark-by c = search (needs, top-low _ _ _ _ _ _ _ (c .before .before .before .before .pre) (c .before .before .loop-test .taken) (c .wide .ensures))
+mul-mark-by c = search (needs, top-low _ _ _ _ _ _ _ (c .before .before .before .before .pre .0) (c .before .before .loop-test .taken) (c .wide .ensures))
 
--- src/lib.rt:293:26
 element-copy-out-mark-by : tie.Need-element-copy-out-mark-by Inv-loop μ-loop
-element-copy-out-mark-by c = search (needs, top-low _ _ _ _ _ _ _ (c .before .before .before .before .pre) (c .before .before .loop-test .taken) (c .wide .ensures))
+element-copy-out-mark-by c = search (needs, top-low _ _ _ _ _ _ _ (c .before .before .before .before .pre .0) (c .before .before .loop-test .taken) (c .wide .ensures))
 
--- src/lib.rt:293:36
 mul-mark-by-2 : tie.Need-mul-mark-by-2 Inv-loop μ-loop
-mul-mark-by-2 c = search (needs, top-low _ _ _ _ _ _ _ (c .before .before .before .before .before .pre) (c .before .before .before .loop-test .taken) (c .before .wide .ensures))
+mul-mark-by-2 c = search (needs, top-low _ _ _ _ _ _ _ (c .before .before .before .before .before .pre .0) (c .before .before .before .loop-test .taken) (c .before .wide .ensures))
 
--- src/lib.rt:293:36
 element-copy-out-mark-by-2 : tie.Need-element-copy-out-mark-by-2 Inv-loop μ-loop
-element-copy-out-mark-by-2 c = search (needs, top-low _ _ _ _ _ _ _ (c .before .before .before .before .before .pre) (c .before .before .before .loop-test .taken) (c .before .wide .ensures))
+element-copy-out-mark-by-2 c = search (needs, top-low _ _ _ _ _ _ _ (c .before .before .before .before .before .pre .0) (c .before .before .before .loop-test .taken) (c .before .wide .ensures))
 
--- src/lib.rt:293:48
 mul-mark-by-3 : tie.Need-mul-mark-by-3 Inv-loop μ-loop
 mul-mark-by-3 c = search needs
 
--- src/lib.rt:293:48
 element-copy-out-mark-by-3 : tie.Need-element-copy-out-mark-by-3 Inv-loop μ-loop
 element-copy-out-mark-by-3 c = search needs
 
--- src/lib.rt:293:62
 mul-mark-by-4 : tie.Need-mul-mark-by-4 Inv-loop μ-loop
 mul-mark-by-4 c = search needs
 
--- src/lib.rt:293:62
 element-copy-out-mark-by-4 : tie.Need-element-copy-out-mark-by-4 Inv-loop μ-loop
 element-copy-out-mark-by-4 c = search needs
 
--- src/lib.rt:293:18
 mark-by-requires : tie.Need-mark-by-requires Inv-loop μ-loop
 mark-by-requires c κs =
-    let I = c .before .before .before .before .before .before .before .before .pre in
+    let I = c .before .before .before .before .before .before .before .before .pre .0 in
     let l = c .before .before .before .before .before .before .loop-test .taken in
     let e = c .before .before .before .before .wide .ensures in
     (top-few _ _ _ _ _ _ _ I l e, top-below _ _ _ _ _ _ _ I l e)
 
--- src/lib.rt:293:9
 mul-out : tie.Need-mul-out Inv-loop μ-loop
 mul-out c = search needs
 
--- src/lib.rt:293:9
-array-write-out : tie.Need-array-write-out Inv-loop μ-loop
-array-write-out c = search needs
+element-write-out : tie.Need-element-write-out Inv-loop μ-loop
+element-write-out c = search needs
 
--- src/lib.rt:290:5
 loop-less : tie.Need-loop-less Inv-loop μ-loop
 loop-less c = search needs
 
--- src/lib.rt:290:5
 loop-again : tie.Need-loop-again Inv-loop μ-loop
 loop-again c = (search needs, search (needs, fill-loop, reported-told))
 
--- src/lib.rt:277:1
 returns : tie.Need-returns Inv-loop μ-loop
 unfolding reportedTable
 returns c = search (needs, fill-loop)
@@ -125,7 +106,7 @@ reported-marks-spec =
     element-copy-out-mark-by-4
     mark-by-requires
     mul-out
-    array-write-out
+    element-write-out
     loop-less
     loop-again
     returns)

@@ -11,16 +11,13 @@ use Rattle.search.proofs.settings_of.Tie as tie
 use Rattle.search.proofs.settings_of.Reads as reads
 use Rattle.search.proofs.settings_of.Lts as lts
 
--- src/lib.rt:50:9
 returns : tie.Need-returns
 unfolding trialsOf
 returns c = rw (is-same (c .if1 .taken))
 
--- src/lib.rt:52:5
 shl-result : tie.Need-shl-result
 shl-result c = search needs
 
--- src/lib.rt:45:1
 returns-2 : tie.Need-returns-2
 unfolding trialsOf
 returns-2 c = let p : 2 ^ c .before .args .k ≤ 256 = pow-le-pow-right {n = 2} (omega arith) (c .before .pre) in rw (not-same (c .if1 .left)) (omega (arith, p))

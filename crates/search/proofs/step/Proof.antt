@@ -10,15 +10,12 @@ use Rattle.search.proofs.step.Lts as lts
 use Rattle.search.proofs.settle.Reads as settle-reads
 use Rattle.search.proofs.trial.Reads as trial-reads
 
--- src/lib.rt:142:9
 trial-requires : tie.Need-trial-requires
 trial-requires c κs = search needs
 
--- src/lib.rt:160:5
 settle-requires : tie.Need-settle-requires
 settle-requires c κs = let s = c .before .pre in (s .1 .2 .long, omega (arith, s .0 .nodes, s .1 .1), s .1 .2 .room)
 
--- src/lib.rt:119:1
 returns : tie.Need-returns
 returns c =
     let s = c .before .before .pre in

@@ -9,12 +9,10 @@ use Rattle.search.proofs.takes.Tie as tie
 use Rattle.search.proofs.takes.Reads as reads
 use Rattle.search.proofs.takes.Lts as lts
 
--- src/lib.rt:90:9
 returns : tie.Need-returns
 unfolding takes
 returns c = rw (is-same (c .if1 .taken))
 
--- src/lib.rt:86:1
 returns-2 : tie.Need-returns-2
 unfolding takes same under
 returns-2 c = rw (not-same (c .if1 .left))

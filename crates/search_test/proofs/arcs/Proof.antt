@@ -16,35 +16,27 @@ Inv-loop up v r₀ i₀ r i = i ≤ 127
 abbrev μ-loop : tie.MeasureT-loop
 μ-loop up v r₀ i₀ r i = 127 - i
 
--- src/main.rt:79:5
 loop-holds : tie.Need-loop-holds Inv-loop μ-loop
 loop-holds c = search needs
 
--- src/main.rt:80:9
 add-i : tie.Need-add-i Inv-loop μ-loop
 add-i c = search needs
 
--- src/main.rt:81:27
 get-requires : tie.Need-get-requires Inv-loop μ-loop
 get-requires c κs = search needs
 
--- src/main.rt:81:20
 one-if-requires : tie.Need-one-if-requires Inv-loop μ-loop
 one-if-requires c κs = search needs
 
--- src/main.rt:81:9
 add-requires : tie.Need-add-requires Inv-loop μ-loop
 add-requires c κs = search needs
 
--- src/main.rt:79:5
 loop-less : tie.Need-loop-less Inv-loop μ-loop
 loop-less c = search needs
 
--- src/main.rt:79:5
 loop-again : tie.Need-loop-again Inv-loop μ-loop
 loop-again c = search needs
 
--- src/main.rt:76:1
 returns : tie.Need-returns Inv-loop μ-loop
 returns c = search needs
 

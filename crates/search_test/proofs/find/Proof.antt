@@ -14,39 +14,30 @@ Inv-loop xs x low i₀ i = i ≤ 127
 abbrev μ-loop : tie.MeasureT-loop
 μ-loop xs x low i₀ i = 127 - i
 
--- src/main.rt:121:5
 loop-holds : tie.Need-loop-holds Inv-loop μ-loop
 loop-holds c = search needs
 
--- src/main.rt:122:9
 add-i : tie.Need-add-i Inv-loop μ-loop
 add-i c = search needs
 
--- src/main.rt:124:16
 get-requires : tie.Need-get-requires Inv-loop μ-loop
 get-requires c κs = search needs
 
--- src/main.rt:125:17
 returns : tie.Need-returns Inv-loop μ-loop
 returns c = search needs
 
--- src/main.rt:121:5
 loop-less : tie.Need-loop-less Inv-loop μ-loop
 loop-less c = search needs
 
--- src/main.rt:121:5
 loop-again : tie.Need-loop-again Inv-loop μ-loop
 loop-again c = search needs
 
--- src/main.rt:121:5
 loop-less-2 : tie.Need-loop-less-2 Inv-loop μ-loop
 loop-less-2 c = search needs
 
--- src/main.rt:121:5
 loop-again-2 : tie.Need-loop-again-2 Inv-loop μ-loop
 loop-again-2 c = search needs
 
--- src/main.rt:119:1
 returns-2 : tie.Need-returns-2 Inv-loop μ-loop
 returns-2 c = search needs
 

@@ -15,35 +15,27 @@ Inv-loop up x y a₀ i₀ a i = i ≤ 128
 abbrev μ-loop : tie.MeasureT-loop
 μ-loop up x y a₀ i₀ a i = 128 - i
 
--- src/main.rt:73:5
 loop-holds : tie.Need-loop-holds Inv-loop μ-loop
 loop-holds c = search needs
 
--- src/main.rt:74:12
 reaches-requires : tie.Need-reaches-requires Inv-loop μ-loop
 reaches-requires c κs = search needs
 
--- src/main.rt:75:13
 returns : tie.Need-returns Inv-loop μ-loop
 returns c = search needs
 
--- src/main.rt:77:9
 get-requires : tie.Need-get-requires Inv-loop μ-loop
 get-requires c κs = search needs
 
--- src/main.rt:78:9
 add-i : tie.Need-add-i Inv-loop μ-loop
 add-i c = search needs
 
--- src/main.rt:73:5
 loop-less : tie.Need-loop-less Inv-loop μ-loop
 loop-less c = search needs
 
--- src/main.rt:73:5
 loop-again : tie.Need-loop-again Inv-loop μ-loop
 loop-again c = search needs
 
--- src/main.rt:70:1
 returns-2 : tie.Need-returns-2 Inv-loop μ-loop
 returns-2 c = search needs
 

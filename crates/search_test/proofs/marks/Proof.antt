@@ -17,39 +17,30 @@ Inv-loop secondary x out₀ rest₀ v₀ out rest v = v ≤ 127
 abbrev μ-loop : tie.MeasureT-loop
 μ-loop secondary x out₀ rest₀ v₀ out rest v = v
 
--- src/main.rt:257:5
 loop-holds : tie.Need-loop-holds Inv-loop μ-loop
 loop-holds c = search needs
 
--- src/main.rt:258:13
 get-requires : tie.Need-get-requires Inv-loop μ-loop
 get-requires c κs = search needs
 
--- src/main.rt:259:32
 bit-of-requires : tie.Need-bit-of-requires Inv-loop μ-loop
 bit-of-requires c κs = search needs
 
--- src/main.rt:259:13
 put-requires : tie.Need-put-requires Inv-loop μ-loop
 put-requires c κs = search needs
 
--- src/main.rt:261:9
 rest-of-requires : tie.Need-rest-of-requires Inv-loop μ-loop
 rest-of-requires c κs = search needs
 
--- src/main.rt:262:9
 sub-v : tie.Need-sub-v Inv-loop μ-loop
 sub-v c = search needs
 
--- src/main.rt:257:5
 loop-less : tie.Need-loop-less Inv-loop μ-loop
 loop-less c = search needs
 
--- src/main.rt:257:5
 loop-again : tie.Need-loop-again Inv-loop μ-loop
 loop-again c = search needs
 
--- src/main.rt:253:1
 returns : tie.Need-returns Inv-loop μ-loop
 returns c = search needs
 

@@ -16,35 +16,27 @@ Inv-loop secondary r₀ v₀ r v = v ≤ 127
 abbrev μ-loop : tie.MeasureT-loop
 μ-loop secondary r₀ v₀ r v = v
 
--- src/main.rt:289:5
 loop-holds : tie.Need-loop-holds Inv-loop μ-loop
 loop-holds c = search needs
 
--- src/main.rt:290:27
 get-requires : tie.Need-get-requires Inv-loop μ-loop
 get-requires c κs = search needs
 
--- src/main.rt:290:20
 unless-requires : tie.Need-unless-requires Inv-loop μ-loop
 unless-requires c κs = search needs
 
--- src/main.rt:290:9
 add-requires : tie.Need-add-requires Inv-loop μ-loop
 add-requires c κs = search needs
 
--- src/main.rt:291:9
 sub-v : tie.Need-sub-v Inv-loop μ-loop
 sub-v c = search needs
 
--- src/main.rt:289:5
 loop-less : tie.Need-loop-less Inv-loop μ-loop
 loop-less c = search needs
 
--- src/main.rt:289:5
 loop-again : tie.Need-loop-again Inv-loop μ-loop
 loop-again c = search needs
 
--- src/main.rt:286:1
 returns : tie.Need-returns Inv-loop μ-loop
 returns c = search needs
 

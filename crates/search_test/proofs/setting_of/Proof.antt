@@ -15,35 +15,27 @@ Inv-loop secondary on r₀ v₀ r v = v ≤ 127
 abbrev μ-loop : tie.MeasureT-loop
 μ-loop secondary on r₀ v₀ r v = 127 - v
 
--- src/main.rt:350:5
 loop-holds : tie.Need-loop-holds Inv-loop μ-loop
 loop-holds c = search needs
 
--- src/main.rt:351:9
 add-v : tie.Need-add-v Inv-loop μ-loop
 add-v c = search needs
 
--- src/main.rt:352:25
 get-requires : tie.Need-get-requires Inv-loop μ-loop
 get-requires c κs = search needs
 
--- src/main.rt:352:44
 get-requires-2 : tie.Need-get-requires-2 Inv-loop μ-loop
 get-requires-2 c κs = search needs
 
--- src/main.rt:352:9
 with-bit-requires : tie.Need-with-bit-requires Inv-loop μ-loop
 with-bit-requires c κs = search needs
 
--- src/main.rt:350:5
 loop-less : tie.Need-loop-less Inv-loop μ-loop
 loop-less c = search needs
 
--- src/main.rt:350:5
 loop-again : tie.Need-loop-again Inv-loop μ-loop
 loop-again c = search needs
 
--- src/main.rt:347:1
 returns : tie.Need-returns Inv-loop μ-loop
 returns c = search needs
 

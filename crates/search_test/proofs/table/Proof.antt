@@ -18,36 +18,28 @@ Inv-loop k xs out₀ i₀ out i = (i ≤ k) × Loaded i out
 abbrev μ-loop : tie.MeasureT-loop
 μ-loop k xs out₀ i₀ out i = k - i
 
--- src/main.rt:397:5
 loop-holds : tie.Need-loop-holds Inv-loop μ-loop
 unfolding zeros
 loop-holds c = (search needs, loaded-none)
 
--- src/main.rt:398:13
 entry-requires : tie.Need-entry-requires Inv-loop μ-loop
 entry-requires c κs = search needs
 
--- src/main.rt:399:17
 add-w : tie.Need-add-w Inv-loop μ-loop
 add-w c = search needs
 
--- src/main.rt:400:9
 mul-out : tie.Need-mul-out Inv-loop μ-loop
 mul-out c = search needs
 
--- src/main.rt:400:9
 array-write-out : tie.Need-array-write-out Inv-loop μ-loop
 array-write-out c = search needs
 
--- src/main.rt:397:5
 loop-less : tie.Need-loop-less Inv-loop μ-loop
 loop-less c = search needs
 
--- src/main.rt:397:5
 loop-again : tie.Need-loop-again Inv-loop μ-loop
 loop-again c = (search needs, loaded-more _ _ _ (c .before .before .loop .inv .1) (omega arith) (c .entry .ensures))
 
--- src/main.rt:391:1
 returns : tie.Need-returns Inv-loop μ-loop
 returns c = search (needs, loaded-end)
 

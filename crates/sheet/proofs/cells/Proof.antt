@@ -6,7 +6,7 @@ use lib.ListN.{length}
 use Rattle.columns.specs.Lines.{fieldCount}
 use Rattle.columns.specs.declared.Reading.{Reading}
 use Rattle.sheet.specs.Sheets.{cellsOf, lineNo, stored}
-use Rattle.sheet.proofs.Storing.{cells-start, cells-turn, cells-done}
+use Rattle.sheet.proofs.Storing.{cells-turn, cells-done}
 use borrow.Author.Needs.{needs}
 use Rattle.sheet.proofs.cells.Statement.{statement}
 use Rattle.sheet.proofs.cells.Tie as tie
@@ -18,7 +18,7 @@ abbrev μ-loop : tie.MeasureT-loop
 μ-loop s count cells₀ i₀ cells i = count - i
 
 loop-holds : tie.Need-loop-holds Inv-loop μ-loop
-loop-holds c = (search needs, cells-start _)
+loop-holds c = search needs
 
 mul-store-line : tie.Need-mul-store-line Inv-loop μ-loop
 mul-store-line c = search needs

@@ -16,8 +16,8 @@ abbrev μ-loop : tie.MeasureT-loop
 μ-loop cells base count k t₀ v₀ t v = count - v
 
 loop-holds : tie.Need-loop-holds Inv-loop μ-loop
-unfolding zeros
-loop-holds c = search (needs, fill-loop)
+unfolding filled
+loop-holds c = search needs
 
 add-w : tie.Need-add-w Inv-loop μ-loop
 add-w c = search needs
@@ -40,8 +40,8 @@ element-copy-out-t c = search needs
 mul-t-3 : tie.Need-mul-t-3 Inv-loop μ-loop
 mul-t-3 c = search needs
 
-array-write-t : tie.Need-array-write-t Inv-loop μ-loop
-array-write-t c = search needs
+element-write-t : tie.Need-element-write-t Inv-loop μ-loop
+element-write-t c = search needs
 
 loop-less : tie.Need-loop-less Inv-loop μ-loop
 loop-less c = search needs
@@ -67,7 +67,7 @@ table-spec =
     mul-t-2
     element-copy-out-t
     mul-t-3
-    array-write-t
+    element-write-t
     loop-less
     loop-again
     returns)

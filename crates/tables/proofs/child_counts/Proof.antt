@@ -1,9 +1,8 @@
 -- `tables::child_counts` meets its contract. The invariant: each entry of 1 to n counts the children passed.
 -- Assumes nothing.
 use Prim.Native.Nat.{_-_, _≤_}
-use Rattle.finite.specs.Tables.{zeros}
 use Rattle.tables.specs.Children.{Counted}
-use Rattle.tables.proofs.Counts.{count-children}
+use Rattle.tables.proofs.Counts.{counted-start, count-children}
 use borrow.Author.Needs.{needs}
 use Rattle.tables.proofs.child_counts.Statement.{statement}
 use Rattle.tables.proofs.child_counts.Tie as tie
@@ -15,8 +14,7 @@ abbrev μ-loop : tie.MeasureT-loop
 μ-loop n parents out₀ v₀ out v = n - v
 
 loop-holds : tie.Need-loop-holds Inv-loop μ-loop
-unfolding zeros
-loop-holds c = search (needs, count-children)
+loop-holds c = (search needs, rw (c .pre .1) (counted-start _ _ (c .pre .0)))
 
 count-next-requires : tie.Need-count-next-requires Inv-loop μ-loop
 count-next-requires c κs = search needs
@@ -30,8 +28,8 @@ loop-less c = search needs
 loop-again : tie.Need-loop-again Inv-loop μ-loop
 loop-again c = search needs
 
-array-write-out : tie.Need-array-write-out Inv-loop μ-loop
-array-write-out c = search needs
+element-write-out : tie.Need-element-write-out Inv-loop μ-loop
+element-write-out c = search needs
 
 returns : tie.Need-returns Inv-loop μ-loop
 returns c = search (needs, count-children)
@@ -47,5 +45,5 @@ child-counts-spec =
     add-v
     loop-less
     loop-again
-    array-write-out
+    element-write-out
     returns)

@@ -1,8 +1,7 @@
 -- `tables::second_children` meets its contract. The invariant: each entry of 1 to n is the lowest child passed that is above its entry in `after`.
 -- Assumes nothing.
 use Prim.Native.Nat.{_≤_}
-use Rattle.finite.specs.Tables.{zeros}
-use Rattle.tables.proofs.Nexts.{Noted, note-loop}
+use Rattle.tables.proofs.Nexts.{Noted, noted-start, note-loop}
 use borrow.Author.Needs.{needs}
 use Rattle.tables.proofs.second_children.Statement.{statement}
 use Rattle.tables.proofs.second_children.Tie as tie
@@ -14,8 +13,7 @@ abbrev μ-loop : tie.MeasureT-loop
 μ-loop n parents after out₀ w₀ out w = w
 
 loop-holds : tie.Need-loop-holds Inv-loop μ-loop
-unfolding zeros
-loop-holds c = search (needs, note-loop)
+loop-holds c = (search needs, rw (c .pre .1) (noted-start _ _ _ (c .pre .0)))
 
 mul-wide : tie.Need-mul-wide Inv-loop μ-loop
 mul-wide c = search needs
@@ -35,8 +33,8 @@ cast-out c = search needs
 mul-out : tie.Need-mul-out Inv-loop μ-loop
 mul-out c = search needs
 
-array-write-out : tie.Need-array-write-out Inv-loop μ-loop
-array-write-out c = search needs
+element-write-out : tie.Need-element-write-out Inv-loop μ-loop
+element-write-out c = search needs
 
 sub-w : tie.Need-sub-w Inv-loop μ-loop
 sub-w c = search needs
@@ -47,8 +45,8 @@ loop-less c = search needs
 loop-again : tie.Need-loop-again Inv-loop μ-loop
 loop-again c = search (needs, note-loop)
 
-array-write-out-2 : tie.Need-array-write-out-2 Inv-loop μ-loop
-array-write-out-2 c = search needs
+element-write-out-2 : tie.Need-element-write-out-2 Inv-loop μ-loop
+element-write-out-2 c = search needs
 
 returns : tie.Need-returns Inv-loop μ-loop
 returns c = search (needs, note-loop)
@@ -66,9 +64,9 @@ second-children-spec =
     slot-after-requires
     cast-out
     mul-out
-    array-write-out
+    element-write-out
     sub-w
     loop-less
     loop-again
-    array-write-out-2
+    element-write-out-2
     returns)

@@ -3,8 +3,9 @@
 use borrow.Author.Needs.{needs}
 use native.Mathlib.Omega.{arith}
 use Prim.Native.Nat.{_-_, _≤_}
+use Rattle.finite.proofs.Tables.{zeros-long}
 use Rattle.histories.specs.Orders.{Placed}
-use Rattle.histories.proofs.Orders.{place-loop, placed-in}
+use Rattle.histories.proofs.Orders.{placed-none, placed-in, place-loop}
 use Rattle.whole_network.proofs.order_of.Statement.{statement}
 use Rattle.whole_network.proofs.order_of.Tie as tie
 
@@ -15,7 +16,7 @@ abbrev μ-loop : tie.MeasureT-loop
 μ-loop n rank out₀ v₀ out v = n - v
 
 loop-holds : tie.Need-loop-holds Inv-loop μ-loop
-loop-holds c = search (needs, place-loop)
+loop-holds c = (search needs, placed-none _ _ (c .pre .0) _ (rw (c .pre .2) zeros-long))
 
 add-w : tie.Need-add-w Inv-loop μ-loop
 add-w c = search needs
@@ -29,8 +30,8 @@ cast-out c = search needs
 mul-out : tie.Need-mul-out Inv-loop μ-loop
 mul-out c = omega (arith, placed-in _ _ (omega arith) _ _ (omega arith) (c .place .ensures))
 
-array-write-out : tie.Need-array-write-out Inv-loop μ-loop
-array-write-out c = placed-in _ _ (omega arith) _ _ (omega arith) (c .place .ensures)
+element-write-out : tie.Need-element-write-out Inv-loop μ-loop
+element-write-out c = placed-in _ _ (omega arith) _ _ (omega arith) (c .place .ensures)
 
 loop-less : tie.Need-loop-less Inv-loop μ-loop
 loop-less c = search needs
@@ -52,7 +53,7 @@ order-of-spec =
     place-requires
     cast-out
     mul-out
-    array-write-out
+    element-write-out
     loop-less
     loop-again
     returns)

@@ -2,7 +2,6 @@
 -- Assumes nothing.
 use Prim.Native.Nat.{_-_, _≤_}
 use borrow.Author.Needs.{needs}
-use Rattle.finite.specs.Tables.{zeros}
 use Rattle.topology.specs.Tables.{networkOf}
 use Rattle.network.specs.Tables.{MarkedWays}
 use Rattle.network.proofs.Ways.{ways-none, ways-end}
@@ -10,14 +9,13 @@ use Rattle.network.proofs.climbs.non_tops.Statement.{statement}
 use Rattle.network.proofs.climbs.non_tops.Tie as tie
 
 abbrev Inv-loop : tie.InvT-loop
-Inv-loop n principal secondary stamp m₀ v₀ m v = (v ≤ n) × MarkedWays (networkOf n principal secondary stamp) m v
+Inv-loop n principal secondary stamp marks₀ v₀ marks v = (v ≤ n) × MarkedWays (networkOf n principal secondary stamp) marks v
 
 abbrev μ-loop : tie.MeasureT-loop
-μ-loop n principal secondary stamp m₀ v₀ m v = n - v
+μ-loop n principal secondary stamp marks₀ v₀ marks v = n - v
 
 loop-holds : tie.Need-loop-holds Inv-loop μ-loop
-unfolding zeros
-loop-holds c = search (needs, ways-none)
+loop-holds c = (search needs, ways-none _ _ _ _ _ (c .pre .0 .1))
 
 mark-next-requires : tie.Need-mark-next-requires Inv-loop μ-loop
 mark-next-requires c κs = search needs

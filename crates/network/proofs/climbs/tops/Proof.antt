@@ -12,17 +12,18 @@ use Rattle.network.proofs.climbs.tops.Statement.{statement}
 use Rattle.network.proofs.climbs.tops.Tie as tie
 
 abbrev Inv-loop : tie.InvT-loop
-Inv-loop n principal secondary stamp marks out₀ v₀ out v = (v ≤ n) × (out ≡ filled v zeros (component (networkOf n principal secondary stamp)))
+Inv-loop n principal secondary stamp out₀ marks v₀ out v = (v ≤ n) × (out ≡ filled v zeros (component (networkOf n principal secondary stamp)))
 
 abbrev μ-loop : tie.MeasureT-loop
-μ-loop n principal secondary stamp marks out₀ v₀ out v = n - v
+μ-loop n principal secondary stamp out₀ marks v₀ out v = n - v
 
 non-tops-requires : tie.Need-non-tops-requires Inv-loop μ-loop
+unfolding zeros
 non-tops-requires c κs = search needs
 
 loop-holds : tie.Need-loop-holds Inv-loop μ-loop
-unfolding zeros
-loop-holds c = search (needs, fill-loop)
+unfolding filled
+loop-holds c = search needs
 
 add-w : tie.Need-add-w Inv-loop μ-loop
 add-w c = search needs
@@ -33,8 +34,8 @@ top-of-requires c κs = search needs
 mul-out : tie.Need-mul-out Inv-loop μ-loop
 mul-out c = search needs
 
-array-write-out : tie.Need-array-write-out Inv-loop μ-loop
-array-write-out c = search needs
+element-write-out : tie.Need-element-write-out Inv-loop μ-loop
+element-write-out c = search needs
 
 loop-less : tie.Need-loop-less Inv-loop μ-loop
 loop-less c = search needs
@@ -57,7 +58,7 @@ tops-spec =
     add-w
     top-of-requires
     mul-out
-    array-write-out
+    element-write-out
     loop-less
     loop-again
     returns)

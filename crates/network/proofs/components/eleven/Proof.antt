@@ -15,7 +15,10 @@ some-crowded-requires : tie.Need-some-crowded-requires
 some-crowded-requires c κs = search needs
 
 returns : tie.Need-returns
-returns c = crowded-told _ _ _ _ (search needs) _ _ _ (c .before .before .before .before .tops .ensures) (c .before .before .members .ensures) (c .some-crowded .ensures)
+returns c =
+    let top = c .before .before .before .before .before .tops .ensures in
+    let held = c .before .before .members .ensures in
+    (crowded-told _ _ _ _ (search needs) _ _ _ top held (c .some-crowded .ensures), record { top = top; held = held })
 
 pub eleven-spec : {M : Type 1} → statement M
 eleven-spec = tie.close (tie.spec tops-requires members-requires some-crowded-requires returns)

@@ -12,16 +12,17 @@ use Rattle.network.proofs.components.indices.Statement.{statement}
 use Rattle.network.proofs.components.indices.Tie as tie
 
 abbrev Inv-loop : tie.InvT-loop
-Inv-loop n secondary tops own seen₀ out₀ v₀ seen out v = (v ≤ n) × Counted n own v seen × (out ≡ filled v zeros (indexFrom n secondary tops))
+Inv-loop n secondary tops out₀ own seen₀ v₀ out seen v = (v ≤ n) × Counted n own v seen × (out ≡ filled v zeros (indexFrom n secondary tops))
 
 abbrev μ-loop : tie.MeasureT-loop
-μ-loop n secondary tops own seen₀ out₀ v₀ seen out v = n - v
+μ-loop n secondary tops out₀ own seen₀ v₀ out seen v = n - v
 
 loop-holds : tie.Need-loop-holds Inv-loop μ-loop
-unfolding zeros
-loop-holds c = (search needs, counted-start _ _ (search needs), search (needs, fill-loop))
+unfolding zeros filled
+loop-holds c = (search needs, counted-start _ _ (search needs), search needs)
 
 reticulation-tops-requires : tie.Need-reticulation-tops-requires Inv-loop μ-loop
+unfolding zeros
 reticulation-tops-requires c κs = search needs
 
 add-w : tie.Need-add-w Inv-loop μ-loop
@@ -33,8 +34,8 @@ index-next-requires c κs = (search needs, rw (c .before .before .before .reticu
 mul-out : tie.Need-mul-out Inv-loop μ-loop
 mul-out c = search needs
 
-array-write-out : tie.Need-array-write-out Inv-loop μ-loop
-array-write-out c = search needs
+element-write-out : tie.Need-element-write-out Inv-loop μ-loop
+element-write-out c = search needs
 
 count-next-requires : tie.Need-count-next-requires Inv-loop μ-loop
 count-next-requires c κs = search needs
@@ -60,7 +61,7 @@ indices-spec =
     add-w
     index-next-requires
     mul-out
-    array-write-out
+    element-write-out
     count-next-requires
     loop-less
     loop-again

@@ -5,6 +5,7 @@ use Prim.Native.Nat.{_-_, _≤_}
 use mathlib.Core.Path.{_≡_}
 use mathlib.Core.Bool.{false}
 use Rattle.finite.specs.Range.{some}
+use Rattle.finite.specs.Tables.{zeros}
 use Rattle.network.specs.ShortForms.{wrongSpeciesAt}
 use Rattle.network.proofs.ShortForms.{nine-told}
 use Rattle.network.proofs.Loops.{some-loop}
@@ -22,6 +23,7 @@ abbrev μ-loop : tie.MeasureT-loop
 μ-loop n principal secondary species principals secondaries counts v₀ v = n - v
 
 child-counts-requires : tie.Need-child-counts-requires Inv-loop μ-loop
+unfolding zeros
 child-counts-requires c κs = search needs
 
 loop-holds : tie.Need-loop-holds Inv-loop μ-loop

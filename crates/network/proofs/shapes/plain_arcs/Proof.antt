@@ -7,6 +7,7 @@ use Rattle.network.proofs.shapes.plain_arcs.Statement.{statement}
 use Rattle.network.proofs.shapes.plain_arcs.Tie as tie
 
 by-kind-requires : tie.Need-by-kind-requires
+unfolding zeros
 by-kind-requires c κs = search needs
 
 child-counts-requires : tie.Need-child-counts-requires
@@ -14,7 +15,7 @@ child-counts-requires c κs = search needs
 
 returns : tie.Need-returns
 unfolding zeros
-returns c = plain-counted _ _ _ _ _ (search needs) (c .before .before .by-kind .ensures) (c .child-counts .ensures)
+returns c = plain-counted _ _ _ _ _ (search needs) (c .before .before .before .by-kind .ensures) (c .child-counts .ensures)
 
 pub plain-arcs-spec : {M : Type 1} → statement M
 plain-arcs-spec = tie.close (tie.spec by-kind-requires child-counts-requires returns)

@@ -5,6 +5,7 @@ use mathlib.Core.Path.{_≡_}
 use mathlib.Core.Bool.{false}
 use borrow.Author.Needs.{needs}
 use Rattle.finite.specs.Range.{some}
+use Rattle.finite.specs.Tables.{zeros}
 use Rattle.network.specs.Refusals.{refusal10, onlyReticulationsAt}
 use Rattle.network.proofs.Loops.{some-loop}
 use Rattle.network.proofs.shapes.ten.Statement.{statement}
@@ -17,6 +18,7 @@ abbrev μ-loop : tie.MeasureT-loop
 μ-loop n principal secondary principals secondaries plain v₀ v = n - v
 
 plain-arcs-requires : tie.Need-plain-arcs-requires Inv-loop μ-loop
+unfolding zeros
 plain-arcs-requires c κs = search needs
 
 loop-holds : tie.Need-loop-holds Inv-loop μ-loop
