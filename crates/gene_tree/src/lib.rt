@@ -1,4 +1,5 @@
 // The gene tree's tables: refusals 12 and 13, the children of each gene and the node of each leaf gene. Entry g of a table is about gene g.
+use tables::wide;
 ghost use mathlib.Core.Path.{_≡_};
 ghost use mathlib.Core.Bool.{_&&_};
 ghost use Prim.Native.Nat.{_≤_};
@@ -6,12 +7,6 @@ ghost use Rattle.finite.specs.Tables.{zeros};
 ghost use Rattle.tables.specs.Children.{firstChildren, childCounts};
 ghost use Rattle.gene_tree.specs.Refusals.{isNext, next, parentFits, childrenFit, treeFits, bearer, speciesFits, seatsFit, geneVerdict};
 ghost use Rattle.gene_tree.specs.Genes.{leftTable, rightTable, leafTable, leafOf};
-
-fn wide(x: u32) -> usize
-    ensures { λ r. ⌜ r ≡ x ⌝ }
-{
-    x as usize
-}
 
 // Whether the entry of v is x.
 fn is_next(l: &[u32; 128], x: usize, v: usize) -> bool

@@ -16,7 +16,7 @@ use Rattle.network.specs.Refusals.{badParents, badParentsAt, refusal6, badStamp
 use Rattle.gene_tree.specs.Refusals.{isNext, next, isChild, childCount, parentFits, childrenFit, geneFits, treeFits, bearer, speciesFits, seatFits, seatsFit}
 use Rattle.gene_tree.specs.Genes.{zeros as noGenes, leftOf, rightOf, leafOf, geneTreeOf, leftTable, rightTable}
 use Rattle.reconciliation.specs.Mapping.{placeIn, place, forks, sendsSecondary, isDuplication, event, transfers, passed, leaves, losses, duplicationCount, transferCount, lossCount, lcaCost}
-use Rattle.optimum.specs.Optimum.{trial, bestSetting, assembled, settings, trials}
+use Rattle.optimum.specs.Optimum.{trial, bestSetting, assembled, trialsOf, settings, trials}
 use Rattle.report.specs.Reports.{totalsLines, linesWhere, reportOf}
 use Rattle.score.specs.Families.{tablesOf, networkIn, geneTreeIn, costsIn, familyIn, reported}
 use Rattle.score.specs.Refusals.{curators, firstFrom, tests, refusal}
@@ -38,7 +38,7 @@ unfolding badParents badParentsAt refusal6 badStamps badStampsAt refusal7 reticu
 open-Curators = tt
 
 unfoldable pub open-Mapping : Unit {0}
-unfolding noGenes leftOf rightOf leafOf geneTreeOf leftTable rightTable placeIn place forks sendsSecondary isDuplication event transfers passed leaves losses duplicationCount transferCount lossCount lcaCost trial bestSetting assembled settings trials
+unfolding noGenes leftOf rightOf leafOf geneTreeOf leftTable rightTable placeIn place forks sendsSecondary isDuplication event transfers passed leaves losses duplicationCount transferCount lossCount lcaCost trial bestSetting assembled settings trialsOf trials
 open-Mapping = tt
 
 unfoldable pub open-Score : Unit {0}

@@ -1,6 +1,7 @@
 // The LCA mapping under one switching. A switched network is lent as its number of nodes n and three tables: `up`, the parent whose arc is on;
 // `on`, 1 where that arc is secondary; `height`, which falls along every arc upwards. A gene tree is lent as its number of genes m and four tables:
 // `left` and `right`, the children; `leaf`, the node of a leaf gene; `mother`, the parent gene.
+use tables::wide;
 ghost use mathlib.Core.Path.{_≡_};
 ghost use mathlib.Core.Logic.{_≢_};
 ghost use Prim.Native.Nat.{ℕ, _+_, _-_, _≤_, _<_};
@@ -15,12 +16,6 @@ ghost use Rattle.mapping.specs.Score.{Cheap, Room, chargedBy, costsOf, s
 ghost use Rattle.mapping.specs.Evaluated.{Tabled};
 ghost use Rattle.mapping.specs.Charges.{weightTable, Weights, Meeting, Paired, ChargedHere, pairBy, Skipped};
 ghost use Rattle.reconciliation.specs.Mapping.{lcaCost};
-
-fn wide(x: u32) -> usize
-    ensures { λ r. ⌜ r ≡ x ⌝ }
-{
-    x as usize
-}
 
 // The bit of the reticulation with j lower-numbered ones in its component, of a setting's k bits: the highest is the lowest-numbered one's.
 fn bit(x: u32, k: u32, j: u32) -> u32

@@ -2,4 +2,3 @@ pub mod Refusals
 pub mod ShortForms
 pub mod Verdict
 pub mod Tables
-pub mod Trials

@@ -1,5 +1,5 @@
 // Heights, and the tops of the components. The climbs end because the network is sound: 6, 7 and 8 have passed.
-use super::counts::wide;
+use tables::wide;
 ghost use mathlib.Core.Path.{_≡_};
 ghost use Prim.Native.Nat.{_+_, _≤_, _<_};
 ghost use lib.ListN.{length};

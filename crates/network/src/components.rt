@@ -2,7 +2,7 @@
 use super::climbs::tops;
 use super::counts::by_kind;
 use super::counts::one_if_true;
-use super::counts::wide;
+use tables::wide;
 ghost use mathlib.Core.Path.{_≡_};
 ghost use Prim.Native.Nat.{_+_, _≤_, _<_};
 ghost use Rattle.finite.specs.Range.{some};

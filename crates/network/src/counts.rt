@@ -1,16 +1,11 @@
 // Counts of entries of a table, and the entries of the reticulations or of the other nodes alone.
+use tables::wide;
 ghost use mathlib.Core.Path.{_≡_};
 ghost use Prim.Native.Nat.{_≤_};
 ghost use Rattle.finite.specs.Tests.{same, tally};
 ghost use Rattle.finite.specs.Range.{children};
 ghost use Rattle.finite.specs.Tables.{at, zeros};
 ghost use Rattle.network.specs.Tables.{table, ofKind, byKind};
-
-pub fn wide(x: u32) -> usize
-    ensures { λ r. ⌜ r ≡ x ⌝ }
-{
-    x as usize
-}
 
 // 1 where two numbers are the same, else 0.
 fn one_if(a: usize, b: usize) -> usize

@@ -1,6 +1,6 @@
 // Refusals 6 and 7: the parents and the stamps.
 use super::counts::count_of;
-use super::counts::wide;
+use tables::wide;
 ghost use mathlib.Core.Path.{_≡_};
 ghost use mathlib.Core.Bool.{false};
 ghost use Prim.Native.Nat.{_≤_};

@@ -1,7 +1,7 @@
 // Refusals 8, 9 and 10: what a node is by its parents and arcs out, its species and its children.
 use super::counts::by_kind;
 use super::counts::count_of;
-use super::counts::wide;
+use tables::wide;
 ghost use mathlib.Core.Path.{_≡_};
 ghost use mathlib.Core.Logic.{_≢_};
 ghost use Prim.Native.Nat.{_≤_};

@@ -17,7 +17,7 @@ use Rattle.reconciliation.specs.GeneTrees.{GeneTree, Rooted, Seated}
 use Rattle.reconciliation.specs.Mapping.{Costs, duplicationCount, transferCount, lossCount, lcaCost}
 use Rattle.reconciliation.specs.Limits.{Limits}
 use Rattle.reconciliation.proofs.Bounds.{duplications-few, transfers-few, losses-few, principal-cost}
-use Rattle.optimum.specs.Optimum.{settings, trials, chosen, Optimal}
+use Rattle.optimum.specs.Optimum.{trialsOf, settings, trials, chosen, Optimal}
 use Rattle.optimum.proofs.Optimum.{chosen-optimal}
 
 -- the reported cost and counts are below 1,000,000
@@ -62,7 +62,7 @@ module _ (N : Network) where
       )))
 
   settings-le : (c : ℕ) → members N c ≤ 8 → settings N c ≤ 32 * members N c
-  unfolding settings
+  unfolding settings trialsOf
   settings-le c l = byEq (members N c) 0 (λ e. rw (is-same e) (omega arith)) (λ d. rw (not-same d) (power-le (members N c) (omega arith) l))
 
   -- so no more than 8 reticulations a component, and fewer than half of the nodes reticulations, leave no more than 2,016 trials

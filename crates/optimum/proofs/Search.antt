@@ -21,7 +21,7 @@ use Rattle.topology.proofs.Above.{reticulation-node}
 use Rattle.topology.proofs.Components.{component-node}
 use Rattle.reconciliation.specs.GeneTrees.{GeneTree, Rooted, Seated}
 use Rattle.reconciliation.specs.Mapping.{Costs, lcaCost}
-use Rattle.optimum.specs.Optimum.{Least, Local, trial, bestSetting, assembled, settings, trials, trialCost, best, chosen, Optimal}
+use Rattle.optimum.specs.Optimum.{Least, Local, trial, bestSetting, assembled, trialsOf, settings, trials, trialCost, best, chosen, Optimal}
 use Rattle.optimum.specs.Machine.{State, start, scored, after, scoredOf, searchAfter, AsScored, stateOf}
 use Rattle.optimum.proofs.Optimum.{assembled-least, least-agree, optimal-agree}
 use Rattle.optimum.proofs.Machine.{put-table, put-same, lesser-take, lesser-keep, after-count, after-turn, after-bests, last-bests, step-none}
@@ -79,7 +79,7 @@ module _ (N : Network) (ok : Sound N) (cost : Switching → ℕ) where
   search-count = after-count (N .size) (settings N) (trial N cost) (trials N) (omega arith)
 
   all-settings : (c : ℕ) → firstLeast (trial N cost c) (settings N c) ≡ bestSetting N cost c
-  unfolding settings bestSetting
+  unfolding settings trialsOf bestSetting
   all-settings c = byEq (members N c) 0
       (λ e. rw (is-same e, e, least-none (trial N cost c)) (omega (arith, least-in (trial N cost c) 1 (omega arith))))
       (λ d. rw (not-same d))

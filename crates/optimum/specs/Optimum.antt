@@ -36,9 +36,13 @@ module _ (N : Network) (cost : Switching → ℕ) where
 unfoldable pub assembled : Network → (ℕ → ℕ) → Switching
 assembled N bests r = settingOf N (component N r) (bests (component N r)) r
 
--- how many settings of component c are tried, and of all components: "the sum of 2^k over components with k at least 1"
+-- how many settings are tried of a component with k reticulations, of component c, and of all components: "the sum of 2^k over components with k at
+-- least 1"
+unfoldable pub trialsOf : (k : ℕ) → ℕ
+trialsOf k = cond (same k 0) 0 (2 ^ k)
+
 unfoldable pub settings : Network → ℕ → ℕ
-settings N c = cond (same (members N c) 0) 0 (2 ^ members N c)
+settings N c = trialsOf (members N c)
 
 unfoldable pub trials : Network → ℕ
 trials N = sum (N .size) (settings N)

@@ -24,13 +24,12 @@ use Rattle.topology.specs.Components.{members}
 use Rattle.reconciliation.specs.GeneTrees.{GeneTree}
 use Rattle.reconciliation.specs.Mapping.{Costs}
 use Rattle.topology.specs.Tables.{networkOf}
-use Rattle.network.specs.Trials.{trialsOf}
 use Rattle.gene_tree.specs.Genes.{zeros}
 use Rattle.gene_tree.proofs.Genes.{zeros-long, zeros-at}
 use Rattle.mapping.specs.Genes.{genesOf}
 use Rattle.mapping.specs.Score.{costsOf}
 use Rattle.mapping.specs.declared.UnitCosts.{UnitCosts}
-use Rattle.optimum.specs.Optimum.{settings, trials, trialCost}
+use Rattle.optimum.specs.Optimum.{trialsOf, settings, trials, trialCost}
 use Rattle.optimum.specs.Machine.{lesser, scored, scoredOf, stateOf, searchAfter}
 use Rattle.optimum.specs.Machine as M
 use Rattle.optimum.proofs.Machine.{put-table, put-same, after-bests, scored-iff}

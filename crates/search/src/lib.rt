@@ -1,6 +1,7 @@
 // 01's search, "a plain machine whose state is a value". All functions are lent one prepared network and gene tree (specs/Prepared): n nodes with
 // their parents, stamps, heights, and for each node the top of its component, at each top how many reticulations the component has, of each
 // reticulation its index there; m genes with their children, leaves and parents. The stamps serve the contracts alone, which name the network by them.
+use tables::wide;
 ghost use mathlib.Core.Path.{_≡_};
 ghost use mathlib.Core.Logic.{_≢_};
 ghost use Prim.Native.Nat.{ℕ, _+_, _≤_, _<_};
@@ -8,12 +9,11 @@ ghost use lib.ListN.{length};
 ghost use Rattle.finite.specs.Range.{sum};
 ghost use Rattle.finite.specs.Tables.{at, zeros};
 ghost use Rattle.topology.specs.Tables.{networkOf};
-ghost use Rattle.network.specs.Trials.{trialsOf};
 ghost use Rattle.mapping.specs.Genes.{genesOf};
 ghost use Rattle.mapping.specs.Settings.{bitOf};
 ghost use Rattle.mapping.specs.Score.{costsOf};
 ghost use Rattle.mapping.specs.Evaluated.{Tabled};
-ghost use Rattle.optimum.specs.Optimum.{settings, trials, trialCost};
+ghost use Rattle.optimum.specs.Optimum.{trialsOf, settings, trials, trialCost};
 ghost use Rattle.optimum.specs.Machine.{stateOf, scored, after, searchAfter};
 ghost use Rattle.search.specs.Prepared.{Prepared};
 ghost use Rattle.search.specs.Steps.{takes, settled, Awaiting, Scored, Reached};
@@ -35,12 +35,6 @@ pub struct Found {
     pub on: [u32; 128],
     pub up: [u32; 128],
     pub score: mapping::Score,
-}
-
-fn wide(x: u32) -> usize
-    ensures { λ r. ⌜ r ≡ x ⌝ }
-{
-    x as usize
 }
 
 // How many settings a component with k reticulations has to be tried in: none where k is 0.

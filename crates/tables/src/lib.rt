@@ -5,7 +5,8 @@ ghost use Prim.Native.Nat.{_+_, _≤_, _<_};
 ghost use Rattle.finite.specs.Tables.{zeros};
 ghost use Rattle.tables.specs.Children.{firstChildren, secondChildren, childCounts, inside, insideAfter, Counted};
 
-fn wide(x: u32) -> usize
+// A number of a table as an index.
+pub fn wide(x: u32) -> usize
     ensures { λ r. ⌜ r ≡ x ⌝ }
 {
     x as usize

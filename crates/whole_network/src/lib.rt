@@ -1,4 +1,5 @@
 // The network as a whole: the least cost over all histories, for each gene and starting node.
+use tables::wide;
 ghost use mathlib.Core.Path.{_≡_};
 ghost use mathlib.Core.Logic.{_≢_};
 ghost use Prim.Native.Nat.{ℕ, _+_, _-_, _*_, _≤_, _<_};
@@ -25,12 +26,6 @@ pub struct Header {
     pub duplication: u32,
     pub transfer: u32,
     pub loss: u32,
-}
-
-fn wide(x: u32) -> usize
-    ensures { λ r. ⌜ r ≡ x ⌝ }
-{
-    x as usize
 }
 
 // A word as a term of a sum.

@@ -7,7 +7,7 @@ use Rattle.gene_tree.proofs.bearer_of.Tie as tie
 use Rattle.gene_tree.proofs.bearer_of.Reads as reads
 use Rattle.gene_tree.proofs.bearer_of.Lts as lts
 use Rattle.gene_tree.proofs.next_of.Reads as next-of-reads
-use Rattle.gene_tree.proofs.wide.Reads as wide-reads
+use Rattle.tables.proofs.wide.Reads as wide-reads
 
 mul-wide : tie.Need-mul-wide
 mul-wide c = search needs

@@ -14,7 +14,7 @@ use Rattle.gene_tree.proofs.seats_fit.Tie as tie
 use Rattle.gene_tree.proofs.seats_fit.Reads as reads
 use Rattle.gene_tree.proofs.seats_fit.Lts as lts
 use Rattle.gene_tree.proofs.species_fits.Reads as species-fits-reads
-use Rattle.gene_tree.proofs.wide.Reads as wide-reads
+use Rattle.tables.proofs.wide.Reads as wide-reads
 use Rattle.tables.proofs.first_children.Reads as first-children-reads
 
 abbrev Inv-loop : tie.InvT-loop

@@ -11,7 +11,7 @@ use Rattle.mapping.proofs.meet.Statement.{statement}
 use Rattle.mapping.proofs.meet.Tie as tie
 use Rattle.mapping.proofs.meet.Reads as reads
 use Rattle.mapping.proofs.meet.Lts as lts
-use Rattle.mapping.proofs.wide.Reads as wide-reads
+use Rattle.tables.proofs.wide.Reads as wide-reads
 
 abbrev Inv-loop : tie.InvT-loop
 Inv-loop n up on height weight x y a₀ b₀ r₀ a b r = Climb n up on height weight x y a b r

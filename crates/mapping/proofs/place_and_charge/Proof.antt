@@ -13,7 +13,7 @@ use Rattle.mapping.proofs.place_and_charge.Lts as lts
 use Rattle.mapping.proofs.fork_mark.Reads as fork-mark-reads
 use Rattle.mapping.proofs.meet.Reads as meet-reads
 use Rattle.mapping.proofs.pair_charge.Reads as pair-charge-reads
-use Rattle.mapping.proofs.wide.Reads as wide-reads
+use Rattle.tables.proofs.wide.Reads as wide-reads
 
 mul-if1 : tie.Need-mul-if1
 mul-if1 c = search needs

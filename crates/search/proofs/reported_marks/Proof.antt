@@ -14,7 +14,7 @@ use Rattle.search.proofs.reported_marks.Tie as tie
 use Rattle.search.proofs.reported_marks.Reads as reads
 use Rattle.search.proofs.reported_marks.Lts as lts
 use Rattle.search.proofs.mark_by.Reads as mark-by-reads
-use Rattle.search.proofs.wide.Reads as wide-reads
+use Rattle.tables.proofs.wide.Reads as wide-reads
 
 abbrev Inv-loop : tie.InvT-loop
 Inv-loop n bests secondary top members index out₀ v₀ out v = (v ≤ n) × (out ≡ filled v zeros (reportedAt bests secondary top members index))

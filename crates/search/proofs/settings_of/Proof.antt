@@ -4,7 +4,7 @@ use Prim.Native.Nat.{_*_, _^_, _≤_}
 use native.Mathlib.Nat.{pow-le-pow-right}
 use native.Mathlib.Omega.{arith}
 use Rattle.finite.proofs.Tests.{is-same, not-same}
-use Rattle.network.specs.Trials.{trialsOf}
+use Rattle.optimum.specs.Optimum.{trialsOf}
 use borrow.Author.Needs.{needs}
 use Rattle.search.proofs.settings_of.Statement.{statement}
 use Rattle.search.proofs.settings_of.Tie as tie

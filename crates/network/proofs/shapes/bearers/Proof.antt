@@ -7,7 +7,7 @@ use Rattle.network.proofs.shapes.bearers.Tie as tie
 use Rattle.network.proofs.shapes.bearers.Reads as reads
 use Rattle.network.proofs.shapes.bearers.Lts as lts
 use Rattle.network.proofs.counts.count_of.Reads as count-of-reads
-use Rattle.network.proofs.counts.wide.Reads as wide-reads
+use Rattle.tables.proofs.wide.Reads as wide-reads
 
 mul-wide : tie.Need-mul-wide
 mul-wide c = search needs
