@@ -24,7 +24,7 @@ use Rattle.gene_tree.proofs.Genes.{rooted as tree-rooted, seated as tree-seated
 use Rattle.optimum.specs.Optimum.{trials, chosen, Optimal}
 use Rattle.optimum.proofs.Optimum.{chosen-optimal}
 use Rattle.optimum.proofs.Bounds.{chosen-small, duplications-small as few-duplications, transfers-small as few-transfers, losses-small as few-losses, trials-small as few-trials}
-use Rattle.acceptance.specs.Admitted.{costsOf, Admitted}
+use Rattle.acceptance.specs.Admitted.{Admitted}
 use Rattle.acceptance.proofs.Whole.{network-accepted}
 
 module _ (n m d t l : ℕ) (principal secondary stamp species parents kind : List ℕ) (ok : Admitted n m d t l principal secondary stamp species parents kind) where
@@ -35,7 +35,7 @@ module _ (n m d t l : ℕ) (principal secondary stamp species parents kind : Lis
   G = geneTreeOf n m parents kind species
 
   abbrev C : Costs
-  C = costsOf d t l
+  C = record { duplication = d; transfer = t; loss = l }
 
   -- the size of the network and of the gene tree
   size-is : N .size ≡ n

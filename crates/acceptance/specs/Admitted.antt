@@ -6,15 +6,10 @@ use mathlib.Core.List.{List}
 use Prim.Native.Nat.{ℕ, _≤_, _<_}
 use Rattle.finite.specs.Tables.{at}
 use Rattle.network.specs.Verdict.{networkVerdict}
-use Rattle.reconciliation.specs.Mapping.{Costs}
 use Rattle.gene_tree.specs.Refusals.{geneVerdict}
 use Rattle.gene_tree.specs.Genes.{leftTable, rightTable}
 use Rattle.histories.specs.Histories.{Family}
 use Rattle.histories.specs.Families.{familyOf}
-
--- the costs of a duplication (D), a transfer (T) and a loss (L)
-abbrev pub costsOf : (d t l : ℕ) → Costs
-costsOf d t l = record { duplication = d; transfer = t; loss = l }
 
 -- the gene family in the network as a whole
 abbrev pub wholeFamily : (n m d t l : ℕ) (principal secondary species parent kind : List ℕ) → Family

@@ -81,6 +81,14 @@ pub zeros-at : (v : ℕ) → at zeros v ≡ 0
 unfolding zeros
 zeros-at v = byLess v 128 (λ l. getD-replicate {A = ℕ} 128 v 0 0 l) (λ l. List·getD-eq-default (replicate 128 0) 0 {n = v} (omega (arith, length-replicate {A = ℕ} 128 0)))
 
+-- a table filled from zeros holds f at 1..k and 0 elsewhere, so it holds what f is bounded by
+pub held-in : (k : ℕ) (f : ℕ → ℕ) → k ≤ 127 → (v : ℕ) → 1 ≤ v → v ≤ k → at (filled k zeros f) v ≡ f v
+held-in k f few v l u = filled-in k zeros f v l u (omega (arith, zeros-long))
+
+pub held-low : (k b : ℕ) (f : ℕ → ℕ) → k ≤ 127 → ((v : ℕ) → 1 ≤ v → v ≤ k → f v ≤ b) → (v : ℕ) → at (filled k zeros f) v ≤ b
+held-low k b f few h v = byEq v 0 (λ e. rw e (omega (arith, filled-zero k zeros f, zeros-at 0)))
+    (λ d. byLess k v (λ l. omega (arith, filled-out k zeros f v l, zeros-at v)) (λ l. omega (arith, held-in k f few v (omega arith) l, h v (omega arith) l)))
+
 pub zeros-filled : (n : ℕ) (f : ℕ → ℕ) → n ≤ 127 → at (filled n zeros f) ≡ within n f
 zeros-filled n f l = filled-within n zeros f (omega (arith, zeros-long)) zeros-at
 

@@ -3,11 +3,11 @@
 use mathlib.Core.Path.{_≡_, refl, sym, _∙_, ap}
 use mathlib.Core.Logic.{_≢_}
 use mathlib.Core.Bool.{Bool, true, false, cond, not, _&&_, _||_, Bool·beq}
-use Prim.Native.Nat.{ℕ, _≤_, _<_}
+use Prim.Native.Nat.{ℕ, _%_, _≤_, _<_}
 use native.Mathlib.Omega.{arith}
 use borrow.Author.Tests.{eqb-true, eqb-false, eq-eqb, ne-eqb, ltb-true, ltb-false, lt-ltb, le-ltb}
 use Rattle.finite.specs.Tests.{same, under, tally}
-use Rattle.finite.proofs.Cases.{byBool, clash}
+use Rattle.finite.proofs.Cases.{byBool, byEq, clash}
 
 pub is-same : {m n : ℕ} → m ≡ n → same m n ≡ true
 unfolding same
@@ -167,3 +167,7 @@ pub ruleset told-laws = (told, told-not-yes, told-not-no, told-same, told-other)
 pub ruleset test-laws = (and-no-l, and-no-r, and-yes, or-yes-l, or-yes-r, or-no, not-yes, not-no, cond-yes, cond-no, is-same, not-same, is-under, not-under)
 
 pub ruleset pick-laws = (pick-yes, pick-no, told, told-not-yes, told-not-no)
+
+-- the lowest bit of a number, as a test and as a number
+pub tally-odd : (x : ℕ) → tally (same (x % 2) 1) ≡ x % 2
+tally-odd x = byEq (x % 2) 1 (λ e. rw (is-same e) (sym e)) (λ d. rw (not-same d) (omega arith))

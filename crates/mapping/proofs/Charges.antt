@@ -13,6 +13,7 @@ use Rattle.finite.specs.Tests.{same, under, tally}
 use Rattle.finite.specs.Range.{sum, count}
 use Rattle.finite.specs.Tables.{at}
 use Rattle.finite.proofs.Cases.{byBool, byEq, byLess}
+use Rattle.finite.proofs.Tables.{held-in, held-low}
 use Rattle.finite.proofs.Tests.{is-same, not-same, is-under, not-under, tally-le}
 use Rattle.finite.proofs.Sum.{sum-same, sum-add, sum-mul, sum-zero, sum-bound, sum-point, sum-points}
 use Rattle.topology.specs.Networks.{Network}
@@ -33,7 +34,7 @@ use Rattle.mapping.specs.declared.UnitCosts.{UnitCosts}
 use Rattle.mapping.proofs.Adding.{times}
 use Rattle.mapping.proofs.Climbs.{on-low}
 use Rattle.mapping.proofs.Meeting.{way-go, way-none}
-use Rattle.mapping.proofs.Mapped.{held-in, held-low, fork-low, place-at, event-at-table, way-below, transfers-held, losses-held}
+use Rattle.mapping.proofs.Mapped.{fork-low, place-at, event-at-table, way-below, transfers-held, losses-held}
 use Rattle.mapping.proofs.Placing.{PlacedFrom, kin-held}
 
 -- the steps of the functions that fill the tables of weights and charge a pair

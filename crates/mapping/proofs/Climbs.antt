@@ -29,6 +29,19 @@ parent-is n up on height v = byBool (same (at on v) 1)
     (λ t. rw t (byEq (at up v) 0 (λ e. rw (is-same e)) (λ d. rw (not-same d))))
     (λ t. rw t (rw (is-same {m = 0} refl)))
 
+-- a secondary parent is the table's parent or none
+module _ (n : ℕ) (up on height : List ℕ) where
+  pub second-up : (v : ℕ) → switchedOf n up on height .secondary v ≢ 0 → switchedOf n up on height .secondary v ≡ at up v
+  unfolding switchedOf
+  second-up v = byBool (same (at on v) 1) (λ t. rw t (λ _. refl)) (λ t. rw t (λ d. absurd (d refl)))
+
+  pub second-low : (v b : ℕ) → at up v ≤ b → switchedOf n up on height .secondary v ≤ b
+  unfolding switchedOf
+  second-low v b l = byBool (same (at on v) 1) (λ t. rw t l) (λ t. rw t (omega arith))
+
+  pub second-none : (v : ℕ) → at up v ≡ 0 → switchedOf n up on height .secondary v ≡ 0
+  second-none v e = omega (arith, second-low v 0 (omega arith))
+
 module _ (n : ℕ) (up on height : List ℕ) (T : Switched n up on height) where
   abbrev N : Network
   N = switchedOf n up on height

@@ -27,7 +27,7 @@ use Rattle.mapping.specs.Switched.{switchedOf, taken, Switched, Held}
 use Rattle.mapping.specs.Genes.{genesOf, Family}
 use Rattle.mapping.specs.Score.{scoreOf}
 use Rattle.mapping.specs.declared.UnitCosts.{UnitCosts}
-use Rattle.mapping.proofs.Climbs.{parent-is}
+use Rattle.mapping.proofs.Climbs.{second-up, second-low, second-none, parent-is}
 
 zero-height : (N : Network) → S.height N 0 ≡ 0
 unfolding S.height
@@ -107,14 +107,6 @@ module _ (N : Network) (ok : Sound N) (σ : Switching) (n : ℕ) (up on height :
   up-in v k = byEq (at up v) 0 (λ e. omega arith) (λ d.
       let q : Node N (parent N σ v) = node-parent N ok σ v k (λ e. d (H .parents v ∙ e)) in omega (arith, H .parents v, H .size))
 
-  second-up : (v : ℕ) → W .secondary v ≢ 0 → W .secondary v ≡ at up v
-  unfolding switchedOf
-  second-up v = byBool (same (at on v) 1) (λ t. rw t (λ _. refl)) (λ t. rw t (λ d. absurd (d refl)))
-
-  second-low : (v b : ℕ) → at up v ≤ b → W .secondary v ≤ b
-  unfolding switchedOf
-  second-low v b l = byBool (same (at on v) 1) (λ t. rw t l) (λ t. rw t (omega arith))
-
   root-secondary : N .secondary (ok .root) ≡ 0
   root-secondary = byEq (N .secondary (ok .root)) 0 (λ e. e) (λ d. absurd (ok .both (ok .root) (ok .root-in) d (ok .root-principal)))
 
@@ -133,21 +125,18 @@ module _ (N : Network) (ok : Sound N) (σ : Switching) (n : ℕ) (up on height :
   out-up : (v : ℕ) → n < v → at up v ≡ 0
   out-up v l = up-none v (ok .out-principal v (omega (arith, H .size))) (ok .out-secondary v (omega (arith, H .size)))
 
-  second-none : (v : ℕ) → at up v ≡ 0 → W .secondary v ≡ 0
-  second-none v e = omega (arith, second-low v 0 (omega arith))
-
   pub sound-held : Sound W
   unfolding switchedOf
   sound-held = record {
     zero-principal = zero-up;
-    zero-secondary = second-none 0 zero-up;
+    zero-secondary = second-none n up on height 0 zero-up;
     out-principal = out-up;
-    out-secondary = λ v l. second-none v (out-up v l);
+    out-secondary = λ v l. second-none n up on height v (out-up v l);
     in-principal = λ v k. up-in v (node v k);
-    in-secondary = λ v k. second-low v n (up-in v (node v k));
+    in-secondary = λ v k. second-low n up on height v n (up-in v (node v k));
     rank-principal = λ v k d. up-rank v (node v k) d;
     rank-secondary = λ v k d. second-rank v k d;
-    both = λ v k d e. d (second-none v e);
+    both = λ v k d e. d (second-none n up on height v e);
     root = ok .root;
     root-in = record { low = ok .root-in .low; high = omega (arith, ok .root-in .high, H .size) };
     root-principal = up-none (ok .root) (ok .root-principal) root-secondary;
@@ -155,7 +144,7 @@ module _ (N : Network) (ok : Sound N) (σ : Switching) (n : ℕ) (up on height :
   }
     where
       second-rank : (v : ℕ) → Node W v → W .secondary v ≢ 0 → W .rank (W .secondary v) < W .rank v
-      second-rank v k d = rw (second-up v d) (up-rank v (node v k) (λ e. d (second-none v e)))
+      second-rank v k d = rw (second-up n up on height v d) (up-rank v (node v k) (λ e. d (second-none n up on height v e)))
 
   pub switched-held : n ≤ 127 → Switched n up on height
   switched-held few = record {

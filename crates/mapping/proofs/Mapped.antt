@@ -13,7 +13,7 @@ use Rattle.finite.specs.Tables.{at, filled}
 use Rattle.finite.proofs.Cases.{byBool, byEq, byLess, clash}
 use Rattle.finite.proofs.Tests.{is-same, not-same, tally-le}
 use Rattle.finite.proofs.Sum.{sum-same, sum-zero, sum-at}
-use Rattle.finite.proofs.Tables.{filled-in, filled-out, filled-zero}
+use Rattle.finite.proofs.Tables.{held-in, held-low}
 use Rattle.tables.specs.Children.{childCounts}
 use Rattle.topology.specs.Climbing.{along}
 use Rattle.topology.specs.Networks.{Network, Node}
@@ -31,14 +31,6 @@ use Rattle.mapping.specs.Switched.{switchedOf, taken, Switched, Below, w
 use Rattle.mapping.specs.Genes.{genesOf, Family, Coming, childHere, eventFrom, eventAt, leavesFrom, wayOf, betweenOf, transfersAt, lossesFrom, lossesAt, placeTable, eventTable, transferTable, lossTable}
 use Rattle.mapping.proofs.Climbs.{parent-is, below-up}
 use Rattle.mapping.proofs.ArcsOut.{hit, miss}
-
--- a table filled from zeros holds f at 1..k and 0 elsewhere, so it holds what f is bounded by
-pub held-in : (k : ℕ) (f : ℕ → ℕ) → k ≤ 127 → (v : ℕ) → 1 ≤ v → v ≤ k → at (filled k zeros f) v ≡ f v
-held-in k f few v l u = filled-in k zeros f v l u (omega (arith, zeros-long))
-
-pub held-low : (k b : ℕ) (f : ℕ → ℕ) → k ≤ 127 → ((v : ℕ) → 1 ≤ v → v ≤ k → f v ≤ b) → (v : ℕ) → at (filled k zeros f) v ≤ b
-held-low k b f few h v = byEq v 0 (λ e. rw e (omega (arith, filled-zero k zeros f, zeros-at 0)))
-    (λ d. byLess k v (λ l. omega (arith, filled-out k zeros f v l, zeros-at v)) (λ l. omega (arith, held-in k f few v (omega arith) l, h v (omega arith) l)))
 
 -- a node's mark, by how many on arcs it has
 pub fork-here : (n : ℕ) (arcs : List ℕ) (v r : ℕ) → n ≤ 127 → 1 ≤ v → v ≤ n → r ≡ tally (same (at arcs v) 2) → r ≡ at (forkTable n arcs) v

@@ -12,7 +12,7 @@ use Rattle.finite.specs.Tests.{same, under, tally}
 use Rattle.finite.specs.Range.{count}
 use Rattle.finite.specs.Tables.{at}
 use Rattle.finite.proofs.Cases.{byBool, byEq, byLess, byOrder}
-use Rattle.finite.proofs.Tests.{is-same, not-same, is-under, not-under, and-no-r, tally-yes, tally-no}
+use Rattle.finite.proofs.Tests.{is-same, not-same, is-under, not-under, and-no-r, tally-yes, tally-no, tally-odd}
 use Rattle.finite.proofs.Sum.{sum-add, sum-same}
 use Rattle.finite.proofs.Count.{count-is, count-some}
 use Rattle.finite.proofs.Tables.{within-in, within-zero, within-out}
@@ -21,7 +21,7 @@ use Rattle.topology.specs.Switchings.{Switching, onSecondary, parent}
 use Rattle.topology.specs.Switchings as S
 use Rattle.topology.specs.Components.{component, memberOf, members, indexOf, membersAfter, settingOf}
 use Rattle.topology.specs.Tables.{rankFrom, networkOf}
-use Rattle.topology.proofs.Above.{reticulation-node, parent-plain}
+use Rattle.topology.proofs.Above.{reticulation-node, parent-plain, off-plain}
 use Rattle.topology.proofs.Components.{member-is, is-member}
 use Rattle.gene_tree.proofs.Genes.{zeros-filled}
 use Rattle.mapping.specs.Switched.{Held}
@@ -58,10 +58,6 @@ module _ (N : Network) (ok : Sound N) (c r : ℕ) (t : memberOf N c r ≡ true) 
     sum-add (N .size) (λ q. tally (memberOf N c q && under q r)) (λ q. tally (same r q)),
   ))
 
--- a bit is 1 or 0
-bit-tally : (y : ℕ) → tally (same (y % 2) 1) ≡ y % 2
-bit-tally y = byEq (y % 2) 1 (λ e. rw (is-same e) (sym e)) (λ d. rw (not-same d) (omega (arith, mod-lt y {m = 2} (omega arith))))
-
 module _ (n : ℕ) (principal secondary stamp : List ℕ) (few : n ≤ 127) (ok : Sound (networkOf n principal secondary stamp)) where
   abbrev N : Network
   N = networkOf n principal secondary stamp
@@ -77,15 +73,6 @@ module _ (n : ℕ) (principal secondary stamp : List ℕ) (few : n ≤ 127) (ok 
   node-of : (v : ℕ) → 1 ≤ v → v ≤ n → Node N v
   unfolding networkOf
   node-of v l u = record { low = l; high = u }
-
-  outside : (v : ℕ) → (v ≡ 0) ⊎ (n < v) → N .secondary v ≡ 0
-  unfolding networkOf
-  outside v (inl e) = rw e (within-zero n (at secondary))
-  outside v (inr l) = within-out n (at secondary) v l
-
-  off : (σ : Switching) (v : ℕ) → N .secondary v ≡ 0 → onSecondary N σ v ≡ false
-  unfolding onSecondary isReticulation
-  off σ v e = rw (is-same e) (and-no-r (σ v) false refl)
 
   on-is : (σ : Switching) (v : ℕ) → N .secondary v ≢ 0 → onSecondary N σ v ≡ σ v
   unfolding onSecondary isReticulation
@@ -115,19 +102,19 @@ module _ (n : ℕ) (principal secondary stamp : List ℕ) (few : n ≤ 127) (ok 
     mark-at : (r : ℕ) → 1 ≤ r → r ≤ n → markAt x (at size c) c secondary top index r ≡ tally (onSecondary N (settingOf N c x) r)
     unfolding markAt markFrom bitOf
     mark-at r l u = rw (← secondary-is r l u, P .tops r (node-of r l u)) (byEq (N .secondary r) 0
-        (λ e. rw (is-same e, off (settingOf N c x) r e))
+        (λ e. rw (is-same e, off-plain N (settingOf N c x) r e))
         (λ d. byEq (component N r) c
         (λ e. let t : memberOf N c r ≡ true = is-member N c r d e in
-        rw (not-same d, is-same e, place-of-bit r t, on-is (settingOf N c x) r d, setting-member r t) (sym (bit-tally (x / 2 ^ membersAfter N c r))))
+        rw (not-same d, is-same e, place-of-bit r t, on-is (settingOf N c x) r d, setting-member r t) (sym (tally-odd (x / 2 ^ membersAfter N c r))))
         (λ z. rw (not-same d, not-same z, on-is (settingOf N c x) r d, setting-other r (not-member r z)))))
 
     -- setting x of component c, all other components on principal
     pub marks-held : (r : ℕ) → at (markTable n x (at size c) c secondary top index) r ≡ tally (onSecondary N (settingOf N c x) r)
-    unfolding markTable
+    unfolding markTable networkOf
     marks-held r = ap (λ (f : ℕ → ℕ). f r) (zeros-filled n (markAt x (at size c) c secondary top index) few) ∙ byEq r 0
-        (λ e. rw e (within-zero n _ ∙ sym (tally-no _ (off (settingOf N c x) 0 (outside 0 (inl refl))))))
+        (λ e. rw e (within-zero n _ ∙ sym (tally-no _ (off-plain N (settingOf N c x) 0 (ok .zero-secondary)))))
         (λ d. byLess n r
-        (λ l. within-out n _ r l ∙ sym (tally-no _ (off (settingOf N c x) r (outside r (inr l)))))
+        (λ l. within-out n _ r l ∙ sym (tally-no _ (off-plain N (settingOf N c x) r (ok .out-secondary r l))))
         (λ l. within-in n _ r (omega arith) l ∙ mark-at r (omega arith) l))
 
     pub numbered-held : c ≤ 127 → members N c ≤ 8 → Numbered n c secondary top size index
@@ -150,8 +137,8 @@ module _ (n : ℕ) (principal secondary stamp : List ℕ) (few : n ≤ 127) (ok 
 
     up-out : (v : ℕ) → (v ≡ 0) ⊎ (n < v) → parent N σ v ≡ 0
     unfolding networkOf
-    up-out v (inl e) = parent-plain N σ v (outside v (inl e)) ∙ rw e (within-zero n (at principal))
-    up-out v (inr l) = parent-plain N σ v (outside v (inr l)) ∙ within-out n (at principal) v l
+    up-out v (inl e) = rw e (parent-plain N σ 0 (ok .zero-secondary) ∙ within-zero n (at principal))
+    up-out v (inr l) = parent-plain N σ v (ok .out-secondary v l) ∙ within-out n (at principal) v l
 
     pub parents-held : (v : ℕ) → at (upTable n principal secondary on) v ≡ parent N σ v
     unfolding upTable

@@ -19,6 +19,7 @@ use Rattle.topology.specs.Networks.{Network, Node, Sound, isReticulation}
 use Rattle.topology.specs.Switchings.{onSecondary}
 use Rattle.gene_tree.specs.Genes.{zeros}
 use Rattle.gene_tree.proofs.Genes.{zeros-at}
+use Rattle.mapping.proofs.Climbs.{second-up, second-low, second-none}
 use Rattle.mapping.specs.Switched.{switchedOf, taken, Switched}
 use Rattle.mapping_test.specs.Rows.{row, Clear}
 
@@ -72,14 +73,6 @@ module _ (n : ℕ) (up on height : List ℕ) (root : ℕ) (P : Passed n up on he
   tall-at : (v : ℕ) → 1 ≤ v → v ≤ n → 1 ≤ at height v
   tall-at v l u = under-is _ _ (every-at n _ (P .tall) v l u)
 
-  second-none : (v : ℕ) → at up v ≡ 0 → W .secondary v ≡ 0
-  unfolding switchedOf
-  second-none v e = byBool (same (at on v) 1) (λ t. rw t e) (λ t. rw t)
-
-  second-is : (v : ℕ) → W .secondary v ≢ 0 → W .secondary v ≡ at up v
-  unfolding switchedOf
-  second-is v = byBool (same (at on v) 1) (λ t. rw t (λ _. refl)) (λ t. rw t (λ d. absurd (d refl)))
-
   mark-none : (v : ℕ) → at on v ≡ 0 → at on v ≡ tally (onSecondary W taken v)
   unfolding switchedOf onSecondary isReticulation taken
   mark-none v e = rw (e, not-same {m = 0} {n = 1} (omega arith), is-same {m = 0} refl)
@@ -97,10 +90,6 @@ module _ (n : ℕ) (up on height : List ℕ) (root : ℕ) (P : Passed n up on he
       (λ l. let q : (same (at on v) 1 && not (same (at up v) 0)) ≡ true = rw (not-same d) at (every-at n _ (P .mark) v (omega arith) l) in
       mark-some v (same-is _ _ (and-l (same (at on v) 1) (not (same (at up v) 0)) q)) (λ e. no-mark v e q))))
 
-  second-low : (v b : ℕ) → at up v ≤ b → W .secondary v ≤ b
-  unfolding switchedOf
-  second-low v b l = byBool (same (at on v) 1) (λ t. rw t l) (λ t. rw t (omega arith))
-
   height-step : (v : ℕ) → Node W v → at up v ≢ 0 → W .rank (at up v) < W .rank v
   unfolding switchedOf
   height-step v k d = omega (arith, up-rise v (k .low) (k .high) d, tall-at v (k .low) (k .high), tall-at (at up v) (omega arith) (up-in v (k .low) (k .high)))
@@ -109,14 +98,14 @@ module _ (n : ℕ) (up on height : List ℕ) (root : ℕ) (P : Passed n up on he
   unfolding switchedOf
   sound = record {
     zero-principal = P .up-clear .none;
-    zero-secondary = second-none 0 (P .up-clear .none);
+    zero-secondary = second-none n up on height 0 (P .up-clear .none);
     out-principal = P .up-clear .past;
-    out-secondary = λ v l. second-none v (P .up-clear .past v l);
+    out-secondary = λ v l. second-none n up on height v (P .up-clear .past v l);
     in-principal = λ v k. up-in v (k .low) (k .high);
-    in-secondary = λ v k. second-low v n (up-in v (k .low) (k .high));
+    in-secondary = λ v k. second-low n up on height v n (up-in v (k .low) (k .high));
     rank-principal = λ v k d. height-step v k d;
     rank-secondary = λ v k d. second-step v k d;
-    both = λ v k d e. d (second-none v e);
+    both = λ v k d e. d (second-none n up on height v e);
     root = root;
     root-in = record { low = P .low; high = P .high };
     root-principal = P .top;
@@ -124,7 +113,7 @@ module _ (n : ℕ) (up on height : List ℕ) (root : ℕ) (P : Passed n up on he
   }
     where
       second-step : (v : ℕ) → Node W v → W .secondary v ≢ 0 → W .rank (W .secondary v) < W .rank v
-      second-step v k d = rw (second-is v d) (height-step v k (λ e. d (second-none v e)))
+      second-step v k d = rw (second-up n up on height v d) (height-step v k (λ e. d (second-none n up on height v e)))
 
   pub switched : Switched n up on height
   switched = record { few = P .few; sound = sound; marks = mark-at; none = P .none; known = tall-at }

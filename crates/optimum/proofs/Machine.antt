@@ -15,18 +15,9 @@ use Rattle.finite.specs.Tables.{at}
 use Rattle.finite.proofs.Cases.{byEq, byOrder, byLess, clash}
 use Rattle.finite.proofs.Tests.{is-same, not-same, is-under, not-under}
 use Rattle.finite.proofs.Sum.{sum-suc, sum-range-le, sum-zero-range}
-use Rattle.finite.proofs.Every.{first-is, first-none, first-low}
+use Rattle.finite.proofs.Every.{first-only, first-nothing}
 use Rattle.finite.proofs.Least.{least-none}
 use Rattle.optimum.specs.Machine.{State, put, lesser, start, scored, nextComponent, nextSetting, step, after, scoredOf}
-
--- the lowest that passes, and where none does
-pub first-only : (n v : ℕ) (f : ℕ → Bool) → 1 ≤ v → v ≤ n → f v ≡ true → ((u : ℕ) → 1 ≤ u → u < v → f u ≡ false) → first n f ≡ v
-first-only n v f l u t h = byEq (first n f) 0
-    (λ e. clash t (first-none n f e v l u))
-    (λ d. byOrder (first n f) v (λ m. clash (first-is n f d .1) (h (first n f) (omega arith) m)) (λ e. e) (λ m. clash t (first-low n f v l m)))
-
-pub first-zero : (n : ℕ) (f : ℕ → Bool) → ((v : ℕ) → 1 ≤ v → v ≤ n → f v ≡ false) → first n f ≡ 0
-first-zero n f h = byEq (first n f) 0 (λ e. e) (λ d. let r = first-is n f d in clash (r .1) (h (first n f) (omega arith) (r .0)))
 
 -- one entry put in
 pub put-in : (f : ℕ → ℕ) (c x : ℕ) → put f c x c ≡ x
@@ -114,7 +105,7 @@ module _ (n : ℕ) (settings : ℕ → ℕ) where
   -- no setting is left
   pub next-none : (t : ℕ) → sum n settings ≤ t → nextComponent n settings t ≡ 0
   unfolding nextComponent
-  next-none t l = first-zero n _ (λ c _ u. not-under {m = t} {n = sum c settings} (omega (arith, sum-range-le n c settings u)))
+  next-none t l = first-nothing n _ (λ c _ u. not-under {m = t} {n = sum c settings} (omega (arith, sum-range-le n c settings u)))
 
   module _ (trial : ℕ → ℕ → ℕ) where
     step-next : (s : State) (k x : ℕ) → k < n → x < settings (suc k) → s .count ≡ sum k settings + x → step n settings trial s ≡ scored trial (suc k) x s

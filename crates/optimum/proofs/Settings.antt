@@ -10,7 +10,7 @@ use native.Mathlib.Omega.{arith}
 use Rattle.finite.specs.Tests.{same, under, tally}
 use Rattle.finite.specs.Range.{count}
 use Rattle.finite.proofs.Cases.{byBool, byEq, byOrder, byLess, clash}
-use Rattle.finite.proofs.Tests.{is-same, not-same, is-under, not-under, and-no-r, tally-le}
+use Rattle.finite.proofs.Tests.{is-same, not-same, is-under, not-under, and-no-r, tally-le, tally-odd}
 use Rattle.finite.proofs.Sum.{sum-suc, sum-zero-range, sum-add, sum-point}
 use Rattle.finite.proofs.Count.{count-zero, count-find}
 use Rattle.topology.specs.Networks.{Network, Sound, Reticulation}
@@ -42,9 +42,6 @@ tally-lt true true e = absurd (omega arith)
 tally-lt true false e = absurd (omega arith)
 tally-lt false true e = (refl, refl)
 tally-lt false false e = absurd (omega arith)
-
-tally-odd : (j : ℕ) → tally (same (j % 2) 1) ≡ j % 2
-tally-odd j = byEq (j % 2) 1 (λ e. rw (is-same e) (sym e)) (λ q. rw (not-same q) (omega arith))
 
 count-last : (k : ℕ) (f : ℕ → Bool) → f (suc k) ≡ true → count (suc k) f ≡ suc (count k f)
 unfolding count

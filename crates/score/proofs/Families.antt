@@ -15,7 +15,7 @@ use Rattle.finite.specs.Tables.{at, filled, within}
 use Rattle.finite.proofs.Cases.{byBool, byEq, byLess}
 use Rattle.finite.proofs.Tests.{is-same, not-same, tally-le}
 use Rattle.finite.proofs.Count.{count-same, count-le}
-use Rattle.finite.proofs.Tables.{filled-in, within-in, within-out, within-zero}
+use Rattle.finite.proofs.Tables.{held-in, held-low, within-in, within-out, within-zero}
 use Rattle.columns.specs.Lines.{Small, written}
 use Rattle.sheet.specs.declared.Header.{Header}
 use Rattle.topology.specs.Networks.{Network, Sound, isReticulation, reticulations, Reticulation}
@@ -71,16 +71,13 @@ filled-small m f l h = record {
       (byEq g 0 (λ e. rw (e, within-zero m f) (omega arith)) (λ d. byLess m g (λ o. rw (within-out m f g o) (omega arith)) (λ o. rw (within-in m f g (omega arith) o) (h g (omega arith) o))));
 }
 
-filled-is : (m : ℕ) (f : ℕ → ℕ) → m ≤ 127 → (g : ℕ) → 1 ≤ g → g ≤ m → at (filled m zeros f) g ≡ f g
-filled-is m f l g a b = ap (λ (e : ℕ → ℕ). e g) (zeros-filled m f l) ∙ within-in m f g a b
-
 small-filled : (m : ℕ) (f : ℕ → ℕ) → m ≤ 127 → ((g : ℕ) → 1 ≤ g → g ≤ m → at (filled m zeros f) g < 1000000) → Small (filled m zeros f)
-small-filled m f l h = filled-small m f l (λ g a o. rw (filled-is m f l g a o) at (h g a o))
+small-filled m f l h = filled-small m f l (λ g a o. rw (held-in m f l g a o) at (h g a o))
 
 -- a table of a function that stays low
 table-low : (n z : ℕ) (f : ℕ → ℕ) → n ≤ 127 → ((v : ℕ) → 1 ≤ v → v ≤ n → f v ≤ z) → (v : ℕ) → at (table n f) v ≤ z
-table-low n z f l h v = byEq v 0 (λ e. omega (arith, ap (at (table n f)) e, table-zero n f))
-    (λ d. byLess n v (λ o. omega (arith, table-out n f v o)) (λ o. omega (arith, table-at n f l v (omega arith) o, h v (omega arith) o)))
+unfolding table
+table-low n z f l h v = held-low n z f l h v
 
 module _ (h : Header) (p c t k q x : List ℕ) (b w : ℕ) (S : Sized (tablesBy h p c t k q x) b w) (P : Passed (tablesBy h p c t k q x)) where
   abbrev X : Tables
@@ -211,19 +208,19 @@ module _ (h : Header) (p c t k q x : List ℕ) (b w : ℕ) (S : Sized (tablesBy 
       -- the genes' tables are those of the network under the switching reported
       place-at : (g : ℕ) → 1 ≤ g → g ≤ h .genes → at (placeTable (h .nodes) (f .up) (f .on) height (h .genes) left right leaf q) g ≡ place N G σ g
       unfolding placeTable
-      place-at g a l = filled-is (h .genes) _ (S .few-genes) g a l ∙ rw (genes-is) (ap (λ (y : ℕ → ℕ). y g) (place-are N is-sound σ (h .nodes) (f .up) (f .on) height held G))
+      place-at g a l = held-in (h .genes) _ (S .few-genes) g a l ∙ rw (genes-is) (ap (λ (y : ℕ → ℕ). y g) (place-are N is-sound σ (h .nodes) (f .up) (f .on) height held G))
 
       event-at : (g : ℕ) → 1 ≤ g → g ≤ h .genes → at (eventTable (h .nodes) (f .up) (f .on) height (h .genes) left right leaf q) g ≡ event N G σ g
       unfolding eventTable
-      event-at g a l = filled-is (h .genes) _ (S .few-genes) g a l ∙ rw (genes-is) (ap (λ (y : ℕ → ℕ). y g) (event-are N is-sound σ (h .nodes) (f .up) (f .on) height held G))
+      event-at g a l = held-in (h .genes) _ (S .few-genes) g a l ∙ rw (genes-is) (ap (λ (y : ℕ → ℕ). y g) (event-are N is-sound σ (h .nodes) (f .up) (f .on) height held G))
 
       transfers-at : (g : ℕ) → 1 ≤ g → g ≤ h .genes → at (transferTable (h .nodes) (f .up) (f .on) height (h .genes) left right leaf q) g ≡ transfers N G σ g
       unfolding transferTable
-      transfers-at g a l = filled-is (h .genes) _ (S .few-genes) g a l ∙ rw (genes-is) (ap (λ (y : ℕ → ℕ). y g) (transfers-are N is-sound σ (h .nodes) (f .up) (f .on) height held G))
+      transfers-at g a l = held-in (h .genes) _ (S .few-genes) g a l ∙ rw (genes-is) (ap (λ (y : ℕ → ℕ). y g) (transfers-are N is-sound σ (h .nodes) (f .up) (f .on) height held G))
 
       losses-at : (g : ℕ) → 1 ≤ g → g ≤ h .genes → at (lossTable (h .nodes) (f .up) (f .on) height (h .genes) left right leaf q) g ≡ losses N G σ g
       unfolding lossTable
-      losses-at g a l = filled-is (h .genes) _ (S .few-genes) g a l ∙ rw (genes-is) (ap (λ (y : ℕ → ℕ). y g) (losses-are N is-sound σ (h .nodes) (f .up) (f .on) height held G))
+      losses-at g a l = held-in (h .genes) _ (S .few-genes) g a l ∙ rw (genes-is) (ap (λ (y : ℕ → ℕ). y g) (losses-are N is-sound σ (h .nodes) (f .up) (f .on) height held G))
 
       genes-small : Genes (placeTable (h .nodes) (f .up) (f .on) height (h .genes) left right leaf q) (eventTable (h .nodes) (f .up) (f .on) height (h .genes) left right leaf q)
           (transferTable (h .nodes) (f .up) (f .on) height (h .genes) left right leaf q) (lossTable (h .nodes) (f .up) (f .on) height (h .genes) left right leaf q)

@@ -18,7 +18,7 @@ use Rattle.topology.specs.Switchings as S
 use Rattle.topology.specs.Components.{component, settingOf}
 use Rattle.topology.specs.Components as C
 use Rattle.topology.specs.Tables.{rankFrom, networkOf}
-use Rattle.topology.proofs.Above.{reticulation-node}
+use Rattle.topology.proofs.Above.{reticulation-node, off-plain}
 use Rattle.topology.proofs.Components.{component-node}
 use Rattle.reconciliation.specs.Mapping.{lcaCost}
 use Rattle.reconciliation.specs.GeneTrees.{GeneTree}
@@ -166,15 +166,6 @@ module _ (n : ℕ) (principal secondary stamp height top members index : List �
         rw e (numbered-by (component N r) 0 (k .low) (inside (component N r) k) .indexed r l h d e);
   }
 
-  off : (σ : Switching) (v : ℕ) → N .secondary v ≡ 0 → onSecondary N σ v ≡ false
-  unfolding onSecondary isReticulation
-  off σ v e = rw (is-same e) (and-no-r (σ v) false refl)
-
-  outside : (v : ℕ) → (v ≡ 0) ⊎ (n < v) → N .secondary v ≡ 0
-  unfolding networkOf
-  outside v (inl e) = rw e (within-zero n (at secondary))
-  outside v (inr l) = within-out n (at secondary) v l
-
   module _ (bests : List ℕ) where
     abbrev σ : Switching
     σ = assembled N (at bests)
@@ -200,11 +191,11 @@ module _ (n : ℕ) (principal secondary stamp height top members index : List �
         ∙ ap tally (own-setting r))
 
     pub reported-marks : (on : List ℕ) → on ≡ reportedTable n bests secondary top members index → (v : ℕ) → at on v ≡ tally (onSecondary (networkOf n principal secondary stamp) (assembled (networkOf n principal secondary stamp) (at bests)) v)
-    unfolding reportedTable
+    unfolding reportedTable networkOf
     reported-marks on e v = ap (λ (t : List ℕ). at t v) e ∙ ap (λ (f : ℕ → ℕ). f v) (zeros-filled n (reportedAt bests secondary top members index) (P .nodes)) ∙ byEq v 0
-        (λ q. rw q (within-zero n _ ∙ sym (tally-no _ (off σ 0 (outside 0 (inl refl))))))
+        (λ q. rw q (within-zero n _ ∙ sym (tally-no _ (off-plain N σ 0 (P .sound .zero-secondary)))))
         (λ d. byLess n v
-        (λ l. within-out n _ v l ∙ sym (tally-no _ (off σ v (outside v (inr l)))))
+        (λ l. within-out n _ v l ∙ sym (tally-no _ (off-plain N σ v (P .sound .out-secondary v l))))
         (λ l. within-in n _ v (omega arith) l ∙ reported-at v (omega arith) l))
 
     -- the switched network of the switching reported

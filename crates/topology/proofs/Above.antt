@@ -25,6 +25,10 @@ module _ (N : Network) where
   unfolding parent onSecondary isReticulation
   parent-plain σ x e = rw (is-same e, and-false (σ x))
 
+  pub off-plain : (σ : Switching) (x : ℕ) → secondary x ≡ 0 → onSecondary N σ x ≡ false
+  unfolding onSecondary isReticulation
+  off-plain σ x e = rw (is-same e, and-false (σ x))
+
   pub parent-cases : {A : Type 0} (σ : Switching) (x : ℕ) → (parent N σ x ≡ principal x → A) → (Reticulation N x → parent N σ x ≡ secondary x → A) → A
   unfolding parent onSecondary isReticulation
   parent-cases σ x f g = byBool (σ x)
