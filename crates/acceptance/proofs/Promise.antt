@@ -1,9 +1,9 @@
 -- The words of the scratch, read: the table's word for gene g and node v is the least cost of gene g at node v, so a scratch that begins with the table
 -- keeps the promise of the whole-network cost.
 -- Assumes nothing.
-use mathlib.Core.Path.{_≡_, refl, sym, _∙_}
+use mathlib.Core.Path.{_≡_, refl, _∙_}
 use mathlib.Core.List.{List, _++_}
-use Prim.Native.Nat.{ℕ, _*_, _≤_, _<_}
+use Prim.Native.Nat.{ℕ, _*_, _≤_}
 use native.Mathlib.Omega.{arith}
 use lib.ListN.{getD, drop, List·getD-append}
 use Rattle.histories.specs.Histories.{Family, Least, least, overall}

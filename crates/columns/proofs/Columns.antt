@@ -1,18 +1,18 @@
 -- A number's columns, column by column. A number below 1,000,000 has one to six digits; in each of the six cases its numeral is found by that many
 -- divisions by ten, and each column is the byte that its place value gives (`columns-are`).
 -- Assumes nothing.
-use Prim.Native.Nat.{ℕ, zero, suc, min, _+_, _-_, _*_, _/_, _%_, _≤_, _<_}
-use mathlib.Core.Path.{_≡_, refl, sym, ap, _∙_}
-use mathlib.Core.Bool.{Bool, true, false, cond}
+use Prim.Native.Nat.{ℕ, zero, suc, _+_, _-_, _*_, _/_, _%_, _≤_, _<_}
+use mathlib.Core.Path.{_≡_, refl, ap}
+use mathlib.Core.Bool.{cond}
 use mathlib.Core.List.{List, [], _∷_, _++_}
-use lib.ListN.{length, getD, take, drop, replicate, length-append, length-replicate, length-take, length-drop}
+use lib.ListN.{length, getD, drop, length-append, length-replicate, length-drop}
 use lib.Seq.{getD-take, getD-drop, ext-getD, length-take-le}
-use lib.Dec.{ltb, eqb, lit<, lit≤}
-use native.Mathlib.Nat.{div-div-eq-div-mul, div-eq-of-lt, mul-le-mul}
+use lib.Dec.{ltb, lit<, lit≤}
+use native.Mathlib.Nat.{div-div-eq-div-mul, mul-le-mul}
 use native.Mathlib.Omega.{arith}
-use borrow.Author.Tests.{ltb-true, ltb-false, lt-ltb, le-ltb}
-use Rattle.finite.proofs.Cases.{byBool, byLess}
-use Rattle.columns.specs.Fields.{numeralIn, numeral, columns, placeValue, columnOf, digitOf, worthOf, six}
+use borrow.Author.Tests.{lt-ltb, le-ltb}
+use Rattle.finite.proofs.Cases.{byLess}
+use Rattle.columns.specs.Fields.{numeralIn, numeral, columns, placeValue, columnOf, six}
 
 -- a numeral's last digit, and the digits before it
 numeral-last : (k n : ℕ) → n < 10 → numeralIn (suc k) n ≡ (48 + n) ∷ []

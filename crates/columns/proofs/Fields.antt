@@ -13,7 +13,6 @@ use native.Mathlib.Omega.{arith}
 use borrow.Author.Tests.{ltb-true, ltb-false, le-ltb}
 use Rattle.finite.proofs.Cases.{byBool, clash}
 use Rattle.columns.specs.Fields.{columns, placeValue, columnOf, digitOf, worthOf, six, spells, fieldAt, FieldIs}
-use Rattle.columns.specs.declared.Cursor.{Cursor}
 use Rattle.columns.specs.declared.Field.{Field}
 use Rattle.columns.specs.declared.Field.the-variants.{Number, Malformed}
 use Rattle.columns.proofs.Bytes.{same-eq, eq-same}

@@ -2,12 +2,12 @@
 -- (`rest-is`), each of which is a number's columns or is malformed. Then the turns of the loops that read and write a line.
 -- Assumes nothing.
 use Prim.Native.Nat.{ℕ, zero, suc, min, _+_, _-_, _*_, _≤_, _<_}
-use mathlib.Core.Path.{_≡_, refl, sym, ap, _∙_, subst}
-use mathlib.Core.Bool.{Bool, true, false, cond}
+use mathlib.Core.Path.{_≡_, refl, sym, ap, _∙_}
+use mathlib.Core.Bool.{true, false}
 use mathlib.Core.List.{List, [], _∷_, _++_, append-assoc, append-nil}
-use lib.ListN.{length, getD, take, drop, set, replicate, length-append, length-take, length-drop, length-set, List·getD-eq-default}
-use lib.Seq.{take-nil, take-take, drop-drop, getD-take, getD-drop, take-add, take-at, drop-at, take-all, take-suc, take-suc-set, drop-cons, set-at, append-snoc}
-use lib.Dec.{eqb, lit<, lit≤}
+use lib.ListN.{length, getD, take, drop, set, replicate, length-append, length-take, length-drop, List·getD-eq-default}
+use lib.Seq.{take-nil, take-take, drop-drop, getD-take, getD-drop, take-add, take-at, drop-at, take-all, take-suc-set, drop-cons, set-at, append-snoc}
+use lib.Dec.{eqb, lit<}
 use native.Mathlib.Nat.{add-zero, zero-add, suc-add, min-le-right}
 use native.Mathlib.Numerals.{add-one}
 use native.Mathlib.Omega.{arith}

@@ -1,7 +1,7 @@
 -- Worked examples, by computation: the columns of some numbers, and fields that are malformed (32 is a space, 48 to 57 the digits).
 -- Assumes nothing.
 use mathlib.Core.Path.{_≡_, refl}
-use mathlib.Core.List.{List, [], _∷_}
+use mathlib.Core.List.{[], _∷_}
 use Rattle.columns.specs.Fields.{numeralIn, numeral, columns, sameBytes, spells, fieldAt}
 use Rattle.columns.specs.declared.Field.the-variants.{Number, Malformed}
 

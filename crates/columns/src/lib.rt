@@ -2,9 +2,8 @@
 ghost use mathlib.Core.Path.{_≡_};
 ghost use mathlib.Core.Bool.{true};
 ghost use mathlib.Core.Logic.{_↔_};
-ghost use mathlib.Core.List.{_++_};
-ghost use Prim.Native.Nat.{ℕ, _+_, _*_, _≤_, _<_};
-ghost use lib.ListN.{length, take, drop, getD, replicate};
+ghost use Prim.Native.Nat.{_+_, _*_, _≤_, _<_};
+ghost use lib.ListN.{length, drop, replicate};
 ghost use Rattle.columns.specs.Fields.{columnOf, columns, fieldAt};
 ghost use Rattle.columns.specs.Scans.{frontCount, Blank, digit, opening, fitting};
 ghost use Rattle.columns.specs.Lines.{lineOf, lineLength, lineAt, endAt, malformed, Small, written, put};

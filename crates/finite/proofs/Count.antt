@@ -1,7 +1,7 @@
 -- The laws of counts over 1..n, and that a tree has fewer branchings than half its nodes: each node but the root is the child of one node,
 -- so the numbers of children add up to less than n.
 -- Assumes nothing.
-use mathlib.Core.Path.{_≡_, refl, sym, _∙_, ap}
+use mathlib.Core.Path.{_≡_, refl, sym, ap}
 use mathlib.Core.Logic.{_≢_}
 use mathlib.Core.Bool.{Bool, true, false, not}
 use Prim.Native.Nat.{ℕ, zero, suc, _+_, _*_, _≤_, _<_}
@@ -10,7 +10,7 @@ use Rattle.finite.specs.Tests.{same, tally}
 use Rattle.finite.specs.Range.{sum, count, children}
 use Rattle.finite.proofs.Cases.{byBool, byEq, clash}
 use Rattle.finite.proofs.Tests.{is-same, not-same, tally-le, tally-imp}
-use Rattle.finite.proofs.Sum.{sum-zero-range, sum-suc, sum-more, sum-same, sum-le, sum-mul, sum-zero, sum-bound, sum-swap, sum-at, sum-two, sum-short}
+use Rattle.finite.proofs.Sum.{sum-zero-range, sum-more, sum-same, sum-le, sum-mul, sum-zero, sum-bound, sum-swap, sum-at, sum-two, sum-short}
 
 pub count-same : (n : ℕ) (f g : ℕ → Bool) → ((v : ℕ) → 1 ≤ v → v ≤ n → f v ≡ g v) → count n f ≡ count n g
 unfolding count

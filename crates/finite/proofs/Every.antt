@@ -6,7 +6,6 @@ use mathlib.Core.Bool.{Bool, true, false, not}
 use Prim.Native.Nat.{ℕ, zero, suc, _+_, _≤_, _<_}
 use native.Mathlib.Numerals.{add-one}
 use native.Mathlib.Omega.{arith}
-use Rattle.finite.specs.Tests.{same}
 use Rattle.finite.specs.Range.{every, some, first}
 use Rattle.finite.proofs.Cases.{byBool, byEq, byOrder, clash}
 use Rattle.finite.proofs.Tests.{is-same, not-same}

@@ -1,8 +1,7 @@
 -- The least index of a least value: its value is least, and every lower index has a greater one.
 -- Assumes nothing.
-use mathlib.Core.Path.{_≡_, refl, sym, _∙_, ap}
-use Prim.Native.Nat.{ℕ, zero, suc, _+_, _≤_, _<_}
-use native.Mathlib.Numerals.{add-one}
+use mathlib.Core.Path.{_≡_, refl, sym, _∙_}
+use Prim.Native.Nat.{ℕ, zero, suc, _≤_, _<_}
 use native.Mathlib.Omega.{arith}
 use Rattle.finite.specs.Least.{firstLeast}
 use Rattle.finite.proofs.Cases.{byEq, byLess}

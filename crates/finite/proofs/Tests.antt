@@ -1,6 +1,6 @@
 -- The laws of tests: what a test that passed or failed says, and what makes it pass or fail. The rulesets at the end are for `search`.
 -- Assumes nothing.
-use mathlib.Core.Path.{_≡_, refl, sym, _∙_, ap}
+use mathlib.Core.Path.{_≡_, refl, sym, _∙_}
 use mathlib.Core.Logic.{_≢_}
 use mathlib.Core.Bool.{Bool, true, false, cond, not, _&&_, _||_, Bool·beq}
 use Prim.Native.Nat.{ℕ, _%_, _≤_, _<_}

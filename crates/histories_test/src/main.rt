@@ -4,8 +4,7 @@
 // the least of each list; the least costs 4, 5, 5, 4, 3, 0 are also those that 01 names.
 use whole_network::Header;
 ghost use mathlib.Core.Path.{_≡_};
-ghost use Prim.Native.Nat.{_*_, _≤_};
-ghost use lib.ListN.{length};
+ghost use Prim.Native.Nat.{_≤_};
 ghost use Rattle.histories.specs.Accepted.{Accepted};
 ghost use Rattle.histories_test.specs.Tables.{seven, principalK, secondaryK, stampK, speciesK};
 

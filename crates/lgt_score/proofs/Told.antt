@@ -1,9 +1,8 @@
 -- The line of a refusal, put together.
 -- Assumes nothing.
 use Prim.Native.Nat.{ℕ}
-use mathlib.Core.Path.{_≡_, refl, sym, ap, _∙_}
+use mathlib.Core.Path.{_≡_, ap, _∙_}
 use mathlib.Core.List.{List, [], _∷_, _++_, append-nil}
-use lib.ListN.{length, drop}
 use Rattle.columns.specs.Fields.{columns}
 use Rattle.columns.specs.Lines.{written}
 use Rattle.columns.proofs.Columns.{length-columns}

@@ -7,9 +7,8 @@ use Prim.Native.Nat.{ℕ, _+_, _≤_}
 use native.Mathlib.Omega.{arith}
 use lib.ListN.{length, set, length-set, List·getD-eq-default}
 use lib.Seq.{getD-set-same, getD-set-other}
-use Rattle.finite.specs.Range.{sum}
 use Rattle.finite.specs.Tables.{at}
-use Rattle.finite.proofs.Cases.{byEq, byLess}
+use Rattle.finite.proofs.Cases.{byEq}
 use Rattle.finite.proofs.Tests.{is-same, not-same}
 use Rattle.finite.proofs.Sum.{sum-more, sum-bound, sum-zero-range}
 use Rattle.finite.proofs.Tables.{filled-ext}

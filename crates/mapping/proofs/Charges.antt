@@ -4,7 +4,7 @@
 -- Assumes nothing.
 use mathlib.Core.Path.{_≡_, refl, sym, _∙_, ap}
 use mathlib.Core.Logic.{_≢_, _⊎_, inl, inr}
-use mathlib.Core.Bool.{Bool, true, false, cond, _&&_, _||_, not}
+use mathlib.Core.Bool.{Bool, true, false, cond, _&&_, not}
 use mathlib.Core.List.{List}
 use Prim.Native.Nat.{ℕ, _+_, _-_, _*_, _≤_, _<_}
 use native.Mathlib.Nat.{mul-add, mul-zero, mul-one}
@@ -17,9 +17,8 @@ use Rattle.finite.proofs.Tables.{held-in, held-low}
 use Rattle.finite.proofs.Tests.{is-same, not-same, is-under, not-under, tally-le}
 use Rattle.finite.proofs.Sum.{sum-same, sum-add, sum-mul, sum-zero, sum-bound, sum-point, sum-points}
 use Rattle.topology.specs.Networks.{Network}
-use Rattle.topology.specs.Switchings.{parent, lca}
+use Rattle.topology.specs.Switchings.{lca}
 use Rattle.topology.specs.Switchings as S
-use Rattle.topology.proofs.Above.{falls}
 use Rattle.reconciliation.specs.GeneTrees.{GeneTree}
 use Rattle.reconciliation.specs.Mapping.{place, isDuplication, event, transfers, losses, duplicationCount, transferCount, lossCount, lcaCost}
 use Rattle.reconciliation.proofs.Places.{child-gene, parent-gene, place-inner}

@@ -9,8 +9,8 @@ use Prim.Native.Nat.{ℕ, _≤_}
 use native.Mathlib.Omega.{arith}
 use Rattle.finite.specs.Tests.{same, tally}
 use Rattle.finite.specs.Range.{count, children}
-use Rattle.finite.specs.Tables.{at, filled}
-use Rattle.finite.proofs.Cases.{byBool, byEq, byLess, clash}
+use Rattle.finite.specs.Tables.{at}
+use Rattle.finite.proofs.Cases.{byBool, byEq, clash}
 use Rattle.finite.proofs.Tests.{is-same, not-same, tally-le}
 use Rattle.finite.proofs.Sum.{sum-same, sum-zero, sum-at}
 use Rattle.finite.proofs.Tables.{held-in, held-low}
@@ -25,8 +25,6 @@ use Rattle.reconciliation.proofs.Places.{child-gene, parent-gene, place-node, p
 use Rattle.reconciliation.proofs.Events.{SendsSecondary, sends-is, is-sends, event-test}
 use Rattle.reconciliation.proofs.Ways.{along-sum}
 use Rattle.reconciliation.proofs.Bounds.{transfers-le, losses-le}
-use Rattle.gene_tree.specs.Genes.{zeros}
-use Rattle.gene_tree.proofs.Genes.{zeros-at, zeros-long}
 use Rattle.mapping.specs.Switched.{switchedOf, taken, Switched, Below, weighs, leavingFrom, leavingTable, forkMark, forkTable, forksTable}
 use Rattle.mapping.specs.Genes.{genesOf, Family, Coming, childHere, eventFrom, eventAt, leavesFrom, wayOf, betweenOf, transfersAt, lossesFrom, lossesAt, placeTable, eventTable, transferTable, lossTable}
 use Rattle.mapping.proofs.Climbs.{parent-is, below-up}

@@ -11,7 +11,7 @@ use lib.Seq.{getD-set-other}
 use Rattle.finite.specs.Tests.{same, under, tally}
 use Rattle.finite.specs.Range.{every}
 use Rattle.finite.specs.Tables.{at, within}
-use Rattle.finite.proofs.Cases.{byBool, byEq, byLess, clash}
+use Rattle.finite.proofs.Cases.{byEq, byLess, clash}
 use Rattle.finite.proofs.Tests.{is-same, same-is, not-same, is-under, under-is, and-l, and-r}
 use Rattle.finite.proofs.Every.{every-at}
 use Rattle.finite.proofs.Tables.{within-in, within-zero, within-out}

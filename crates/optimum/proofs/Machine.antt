@@ -3,16 +3,15 @@
 -- Assumes nothing.
 use mathlib.Core.Path.{_≡_, refl, sym, _∙_, ap, fun-ext}
 use mathlib.Core.Logic.{_≢_, _↔_}
-use mathlib.Core.Bool.{Bool, true, false}
 use mathlib.Core.List.{List}
 use Prim.Native.Nat.{ℕ, zero, suc, _+_, _-_, _≤_, _<_, min}
 use native.Mathlib.Omega.{arith}
 use lib.ListN.{length, set}
 use lib.Seq.{getD-set-same, getD-set-other}
-use Rattle.finite.specs.Range.{sum, first}
+use Rattle.finite.specs.Range.{sum}
 use Rattle.finite.specs.Least.{firstLeast}
 use Rattle.finite.specs.Tables.{at}
-use Rattle.finite.proofs.Cases.{byEq, byOrder, byLess, clash}
+use Rattle.finite.proofs.Cases.{byEq, byLess}
 use Rattle.finite.proofs.Tests.{is-same, not-same, is-under, not-under}
 use Rattle.finite.proofs.Sum.{sum-suc, sum-range-le, sum-zero-range}
 use Rattle.finite.proofs.Every.{first-only, first-nothing}

@@ -10,7 +10,7 @@ use native.Mathlib.Omega.{arith}
 use Rattle.finite.specs.Tests.{same, under, tally}
 use Rattle.finite.specs.Range.{count}
 use Rattle.finite.proofs.Cases.{byBool, byEq, byOrder, byLess, clash}
-use Rattle.finite.proofs.Tests.{is-same, not-same, is-under, not-under, and-no-r, tally-le, tally-odd}
+use Rattle.finite.proofs.Tests.{not-same, is-under, not-under, and-no-r, tally-le, tally-odd}
 use Rattle.finite.proofs.Sum.{sum-suc, sum-zero-range, sum-add, sum-point}
 use Rattle.finite.proofs.Count.{count-zero, count-find}
 use Rattle.topology.specs.Networks.{Network, Sound, Reticulation}

@@ -1,6 +1,6 @@
 -- The limits of a sheet (01, "The sheet"): "n and m are 1 to 127, each cost 0 to 99".
 -- Assumes nothing.
-use Prim.Native.Nat.{ℕ, _≤_}
+use Prim.Native.Nat.{_≤_}
 use Rattle.topology.specs.Networks.{Network}
 use Rattle.reconciliation.specs.GeneTrees.{GeneTree}
 use Rattle.reconciliation.specs.Mapping.{Costs}

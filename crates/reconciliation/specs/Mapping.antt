@@ -1,7 +1,7 @@
 -- The LCA mapping of a gene tree into a species network under a switching (01, "Settings and placement"; 001, section 4.1): where each gene sits,
 -- its event, the transfers and losses on its way, and the last-common-ancestor cost.
 -- Assumes nothing.
-use mathlib.Core.Bool.{Bool, true, false, cond, _&&_, _||_, not}
+use mathlib.Core.Bool.{Bool, cond, _&&_, _||_, not}
 use Prim.Native.Nat.{ℕ, zero, suc, _+_, _*_}
 use Rattle.finite.specs.Tests.{same, tally}
 use Rattle.finite.specs.Range.{sum, count, some}

@@ -3,22 +3,21 @@
 -- Assumes nothing.
 use Prim.Native.Nat.{ℕ, zero, suc, _+_, _-_, _*_, _≤_, _<_}
 use mathlib.Core.Path.{_≡_, refl, sym, ap, _∙_}
-use mathlib.Core.Bool.{Bool, true, false, cond, not}
-use mathlib.Core.List.{List, [], _∷_, _++_, append-assoc}
-use lib.ListN.{length, getD, take, drop, length-append, take-append-drop}
+use mathlib.Core.Bool.{Bool, true, false, cond}
+use mathlib.Core.List.{List, [], _++_}
+use lib.ListN.{length, getD, length-append}
 use native.Mathlib.Numerals.{add-one}
 use native.Mathlib.Omega.{arith}
-use Rattle.finite.specs.Tests.{same, tally}
-use Rattle.finite.specs.Range.{sum, count}
+use Rattle.finite.specs.Tests.{tally}
+use Rattle.finite.specs.Range.{count}
 use Rattle.finite.specs.Tables.{at}
-use Rattle.finite.proofs.Cases.{byBool}
 use Rattle.finite.proofs.Tests.{is-same, not-same}
 use Rattle.finite.proofs.Sum.{sum-suc, sum-more, sum-range-le, sum-zero-range}
-use Rattle.columns.specs.Lines.{fieldCount, lineLength, lineOf, Small, put, written}
+use Rattle.columns.specs.Lines.{lineLength, lineOf, Small, put, written}
 use Rattle.columns.proofs.Lines.{length-line}
 use Rattle.columns.proofs.Writing.{put-put, put-written, put-nil, put-front, length-put}
 use Rattle.report.specs.declared.Totals.{Totals}
-use Rattle.report.specs.Reports.{fiveOf, SmallTotals, totalsLines, linesWhere, always, reticulationFields, geneFields, hasSecondary, reportOf, reportLength, SmallFive, Reticulations, Genes, Appended, Lines}
+use Rattle.report.specs.Reports.{fiveOf, totalsLines, linesWhere, always, reticulationFields, geneFields, hasSecondary, reportOf, reportLength, SmallFive, Appended, Lines}
 
 -- five numbers that have fields
 pub small-five : (a b c d e : ℕ) (ns : List ℕ) → ns ≡ fiveOf a b c d e → SmallFive a b c d e → Small ns

@@ -1,14 +1,13 @@
 // The report: its lines, each written into what is left of the result.
 ghost use mathlib.Core.Path.{_≡_};
 ghost use mathlib.Core.Bool.{true};
-ghost use mathlib.Core.List.{List, [], _∷_, _++_};
-ghost use Prim.Native.Nat.{ℕ, _+_, _*_, _≤_, _<_};
+ghost use Prim.Native.Nat.{_+_, _*_, _≤_, _<_};
 ghost use lib.ListN.{length};
 ghost use Rattle.finite.specs.Tests.{tally};
 ghost use Rattle.finite.specs.Range.{count};
 ghost use Rattle.finite.specs.Tables.{at};
-ghost use Rattle.columns.specs.Lines.{lineLength, lineOf, Small, put, written};
-ghost use Rattle.report.specs.Reports.{SmallTotals, totalsLines, linesWhere, always, fiveOf, hasSecondary, reticulationFields, geneFields, reportLength, reportOf, SmallFive, Reticulations, Genes, Appended, Lines};
+ghost use Rattle.columns.specs.Lines.{lineLength, written};
+ghost use Rattle.report.specs.Reports.{SmallTotals, totalsLines, always, fiveOf, hasSecondary, reticulationFields, geneFields, reportLength, reportOf, SmallFive, Reticulations, Genes, Appended, Lines};
 
 // The numbers of the first two lines.
 pub struct Totals {

@@ -1,40 +1,38 @@
 -- The report of a family that no refusal applies to. The verdicts and the equations of the tables prepare the search; its last state is the chosen
 -- switching, so the tables that are written hold the report's numbers, each of which has a field.
 -- Assumes nothing.
-use Prim.Native.Nat.{ℕ, zero, suc, _+_, _*_, _≤_, _<_}
-use mathlib.Core.Path.{_≡_, refl, sym, ap, _∙_, subst, fun-ext}
-use mathlib.Core.Logic.{_≢_}
-use mathlib.Core.Bool.{Bool, true, false, cond, not}
+use Prim.Native.Nat.{ℕ, _+_, _*_, _≤_, _<_}
+use mathlib.Core.Path.{_≡_, sym, ap, _∙_, subst, fun-ext}
+use mathlib.Core.Bool.{false}
 use mathlib.Core.List.{List, _++_}
-use lib.ListN.{length, getD, drop}
+use lib.ListN.{length, drop}
 use native.Mathlib.Nat.{mul-le-mul, le-trans}
 use native.Mathlib.Omega.{arith}
-use Rattle.finite.specs.Tests.{same, tally}
+use Rattle.finite.specs.Tests.{tally}
 use Rattle.finite.specs.Range.{count}
-use Rattle.finite.specs.Tables.{at, filled, within}
-use Rattle.finite.proofs.Cases.{byBool, byEq, byLess}
-use Rattle.finite.proofs.Tests.{is-same, not-same, tally-le}
+use Rattle.finite.specs.Tables.{at, filled}
+use Rattle.finite.proofs.Cases.{byEq, byLess}
+use Rattle.finite.proofs.Tests.{is-same, tally-le}
 use Rattle.finite.proofs.Count.{count-same, count-le}
 use Rattle.finite.proofs.Tables.{held-in, held-low, within-in, within-out, within-zero}
 use Rattle.columns.specs.Lines.{Small, written}
 use Rattle.sheet.specs.declared.Header.{Header}
-use Rattle.topology.specs.Networks.{Network, Sound, isReticulation, reticulations, Reticulation}
+use Rattle.topology.specs.Networks.{Network, Sound, isReticulation, reticulations}
 use Rattle.topology.specs.Switchings.{Switching, onSecondary, parent}
 use Rattle.topology.specs.Components.{component, members, memberOf, settingOf}
 use Rattle.topology.specs.Tables.{networkOf}
 use Rattle.topology.proofs.Above.{reticulation-node}
 use Rattle.topology.proofs.Components.{component-node}
-use Rattle.network.specs.Tables.{table, membersFrom, indexFrom, heightIn, Dated}
-use Rattle.network.proofs.Tables.{table-at, table-out, table-zero, table-long}
+use Rattle.network.specs.Tables.{table, Dated}
+use Rattle.network.proofs.Tables.{table-at}
 use Rattle.reconciliation.specs.GeneTrees.{GeneTree}
-use Rattle.reconciliation.specs.Mapping.{Costs, place, event, transfers, losses, duplicationCount, transferCount, lossCount, lcaCost}
-use Rattle.gene_tree.specs.Genes.{zeros, geneTreeOf, leftTable, rightTable, leafTable}
+use Rattle.reconciliation.specs.Mapping.{place, event, transfers, losses}
+use Rattle.gene_tree.specs.Genes.{zeros, geneTreeOf}
 use Rattle.gene_tree.proofs.Genes.{zeros-filled}
-use Rattle.mapping.specs.Switched.{switchedOf, taken, Switched, Held}
-use Rattle.mapping.specs.Genes.{Family, genesOf, placeTable, eventTable, transferTable, lossTable}
-use Rattle.mapping.specs.Score.{costsOf, scoreOf, Cheap}
+use Rattle.mapping.specs.Switched.{Held}
+use Rattle.mapping.specs.Genes.{genesOf, placeTable, eventTable, transferTable, lossTable}
+use Rattle.mapping.specs.Score.{costsOf, scoreOf}
 use Rattle.mapping.specs.declared.UnitCosts.{UnitCosts}
-use Rattle.mapping.specs.declared.Score.{Score}
 use Rattle.mapping.proofs.Held.{switched-held, place-are, event-are, transfers-are, losses-are, genes-are}
 use Rattle.optimum.specs.Optimum.{assembled, chosen, trials, best}
 use Rattle.search.specs.Prepared.{Prepared}
@@ -50,9 +48,9 @@ use Rattle.histories.specs.Accepted.{Accepted}
 use Rattle.histories.specs.Promise.{WholeNetwork}
 use Rattle.acceptance.specs.Admitted.{Admitted}
 use Rattle.acceptance.proofs.Whole.{whole-accepted}
-use Rattle.acceptance.proofs.Mapped.{sound, rooted, seated, members-few, reticulations-small, component-small, parent-small, place-small, event-few, gene-transfers-small, gene-losses-small}
+use Rattle.acceptance.proofs.Mapped.{sound, reticulations-small, component-small, parent-small, place-small, event-few, gene-transfers-small, gene-losses-small}
 use Rattle.report.specs.declared.Totals.{Totals}
-use Rattle.report.specs.Reports.{SmallTotals, Reticulations, Genes, hasSecondary, reportOf, reportLength, linesWhere, always, reticulationFields, geneFields, totalsLines}
+use Rattle.report.specs.Reports.{Genes, hasSecondary, reportLength}
 use Rattle.report.proofs.Writing.{length-report}
 use Rattle.score.specs.Families.{Tables, networkIn, geneTreeIn, costsIn, familyIn, reported}
 use Rattle.score.specs.Outcome.{componentCount, totalsIn, reportIn}

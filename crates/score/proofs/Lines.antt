@@ -1,15 +1,15 @@
 -- The lines of a report depend on the numbers of the nodes and genes that they are about, and on nothing else: reports with the same numbers
 -- are the same bytes.
 -- Assumes nothing.
-use Prim.Native.Nat.{ℕ, zero, suc, _+_, _≤_, _<_}
-use mathlib.Core.Path.{_≡_, refl, sym, ap, _∙_}
-use mathlib.Core.Bool.{Bool, true, false, cond}
-use mathlib.Core.List.{List, [], _++_}
+use Prim.Native.Nat.{ℕ, zero, suc, _≤_}
+use mathlib.Core.Path.{_≡_, refl}
+use mathlib.Core.Bool.{Bool}
+use mathlib.Core.List.{List}
 use native.Mathlib.Omega.{arith}
 use Rattle.finite.specs.Tables.{at}
-use Rattle.columns.specs.Lines.{lineOf, written}
+use Rattle.columns.specs.Lines.{written}
 use Rattle.report.specs.declared.Totals.{Totals}
-use Rattle.report.specs.Reports.{Genes, linesWhere, always, reticulationFields, geneFields, totalsLines, reportOf}
+use Rattle.report.specs.Reports.{Genes, linesWhere, always, reticulationFields, geneFields, reportOf}
 
 -- tables that are what they should be
 pub genes-told : (place event transfers losses p e t l : List ℕ) → place ≡ p → event ≡ e → transfers ≡ t → losses ≡ l → Genes p e t l → Genes place event transfers losses

@@ -1,35 +1,32 @@
 -- The outcome of each way out of the call. A refusal leaves both buffers as they were; the tests before it failed, so it is the first that applies
 -- (`lined`, `curators-refuse`); and a sheet that none applies to has its report written.
 -- Assumes nothing.
-use Prim.Native.Nat.{ℕ, zero, suc, _+_, _*_, _≤_, _<_}
+use Prim.Native.Nat.{ℕ, suc, _+_, _≤_, _<_}
 use mathlib.Core.Path.{_≡_, refl, sym, ap, _∙_, subst, fun-ext}
-use mathlib.Core.Logic.{_≢_, _↔_}
+use mathlib.Core.Logic.{_≢_}
 use mathlib.Core.Bool.{Bool, true, false, cond, not, _&&_}
-use mathlib.Core.List.{List, [], _∷_, _++_}
-use lib.ListN.{length, drop}
+use mathlib.Core.List.{List}
+use lib.ListN.{length}
 use native.Mathlib.Omega.{arith}
 use Rattle.finite.specs.Tests.{same, under}
 use Rattle.finite.specs.Range.{every}
 use Rattle.finite.specs.Tables.{at, filled, within}
 use Rattle.finite.proofs.Tables.{zeros-long, zeros-at, filled-within, within-in, within-out, within-zero}
-use Rattle.finite.proofs.Cases.{byBool, byEq, byLess, clash}
-use Rattle.finite.proofs.Tests.{is-same, not-same, is-under, not-under, and-no-l, and-no-r, told-not-yes, told-not-no, not-false}
-use Rattle.columns.specs.Lines.{written}
-use Rattle.sheet.specs.Sheets.{zeros, nodes, genes, duplicationCost, transferCost, lossCost, lineNo, Limits, limits, refuses3, refuses4, refuses5, headerOf, whole, nodeLine, geneLine, cell, cellsOf, nodeNumbered, geneNumbered, columnOf, nodeTable, geneTable}
+use Rattle.finite.proofs.Cases.{byBool, byEq, byLess}
+use Rattle.finite.proofs.Tests.{not-same, is-under, not-under, and-no-r, told-not-yes, told-not-no, not-false}
+use Rattle.sheet.specs.Sheets.{zeros, nodes, genes, duplicationCost, transferCost, lossCost, lineNo, Limits, limits, refuses3, refuses4, refuses5, headerOf, whole, nodeLine, geneLine, cell, cellsOf, nodeNumbered, geneNumbered, columnOf, nodeTable}
 use Rattle.sheet.specs.declared.Header.{Header}
-use Rattle.sheet.specs.declared.Headed.{Headed}
 use Rattle.sheet.specs.declared.Headed.the-variants.{Header as accepted, Refused as headerRefused}
 use Rattle.sheet.proofs.Limits.{limits-is}
 use Rattle.sheet.proofs.Refusals.{nodes-told, genes-told, node-table, gene-table, cell-small}
 use Rattle.network.specs.Verdict.{networkVerdict}
 use Rattle.gene_tree.specs.Refusals.{geneVerdict}
-use Rattle.histories.specs.Words.{words}
 use Rattle.score.specs.declared.Answer.{Answer}
 use Rattle.score.specs.declared.Answer.the-variants.{Report, Refused}
-use Rattle.score.specs.Families.{Tables, tablesOf, familyIn}
+use Rattle.score.specs.Families.{Tables, tablesOf}
 use Rattle.score.specs.Refusals.{leastWords, leastBytes, curators, firstFrom, tests, refusal}
-use Rattle.score.specs.Outcome.{reportIn, answerBy, resultBy, scratchBy, Outcome}
-use Rattle.score.specs.Stages.{tablesBy, cellTables, Sized, Lined, Passed, Written}
+use Rattle.score.specs.Outcome.{answerBy, resultBy, scratchBy, Outcome}
+use Rattle.score.specs.Stages.{tablesBy, cellTables, Sized, Passed, Written}
 use Rattle.score.proofs.Refusals.{two-verdicts}
 
 -- a refusal, and a report

@@ -1,14 +1,13 @@
 -- The promise of the call follows from its outcome: the answer says which refusal was the first, the refusals' conditions say when that is, and a
 -- sheet that none applies to is one of which the theorems on the optimum and on histories speak.
 -- Assumes nothing.
-use Prim.Native.Nat.{ℕ, zero, suc, _+_, _≤_, _<_}
-use mathlib.Core.Path.{_≡_, refl, sym, ap, _∙_}
+use Prim.Native.Nat.{ℕ}
+use mathlib.Core.Path.{_≡_, sym, ap, _∙_}
 use mathlib.Core.Logic.{_≢_, _↔_}
-use mathlib.Core.Bool.{Bool, true, false, cond}
+use mathlib.Core.Bool.{true, false}
 use mathlib.Core.List.{List}
 use lib.ListN.{length, getD}
 use native.Mathlib.Omega.{arith}
-use Rattle.finite.specs.Tests.{same}
 use Rattle.finite.proofs.Cases.{byEq}
 use Rattle.finite.proofs.Tests.{is-same, not-same, not-false}
 use Rattle.sheet.specs.Sheets.{nodes, genes, duplicationCost, transferCost, lossCost, lineNo, cell, Limits, refuses4}
@@ -25,7 +24,7 @@ use Rattle.acceptance.proofs.Promise.{each-word}
 use Rattle.score.specs.declared.Answer.{Answer}
 use Rattle.score.specs.declared.Answer.the-variants.{Report, Refused}
 use Rattle.score.specs.Families.{Tables, tablesOf, networkIn, geneTreeIn, costsIn, familyIn, reported}
-use Rattle.score.specs.Refusals.{curators, tests, refusal, Applies}
+use Rattle.score.specs.Refusals.{curators, tests, refusal}
 use Rattle.score.specs.Outcome.{reportIn, answerBy, Outcome, Reported, Promise}
 use Rattle.score.proofs.Refusals.{none-found, refusal-iff, accepted-iff}
 use Rattle.score.proofs.Outcomes.{stamps-small}

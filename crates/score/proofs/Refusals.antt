@@ -2,17 +2,15 @@
 -- (`each`), and the first test of a list that holds is where it should be (`first-found`, `found-first`).
 -- Assumes nothing.
 use Prim.Native.Nat.{ℕ, zero, suc, _+_, _≤_, _<_}
-use mathlib.Core.Path.{_≡_, refl, sym, ap, _∙_}
+use mathlib.Core.Path.{_≡_, refl, sym, _∙_}
 use mathlib.Core.Logic.{_≢_, _↔_}
 use mathlib.Core.Bool.{Bool, true, false, cond, not}
 use mathlib.Core.List.{List, [], _∷_}
 use lib.ListN.{getD}
 use native.Mathlib.Omega.{arith}
 use Rattle.finite.specs.Tests.{under}
-use Rattle.finite.proofs.Cases.{byBool, byLess, byEq, clash}
+use Rattle.finite.proofs.Cases.{byBool, byEq, clash}
 use Rattle.finite.proofs.Tests.{is-under, under-is, not-true, not-yes}
-use Rattle.topology.specs.Networks.{Sound}
-use Rattle.sheet.specs.Sheets.{refuses3, refuses4, refuses5}
 use Rattle.sheet.proofs.Refusals.{refuses-3, refuses-4, refuses-5}
 use Rattle.network.specs.Refusals.{refusal6, refusal7, refusal8, refusal9, refusal10, refusal11}
 use Rattle.network.specs.Verdict.{networkVerdict}

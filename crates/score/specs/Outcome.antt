@@ -2,19 +2,19 @@
 -- Assumes nothing.
 use mathlib.Core.Path.{_≡_}
 use mathlib.Core.Logic.{_≢_, _↔_}
-use mathlib.Core.Bool.{Bool, true, cond, not}
-use mathlib.Core.List.{List, [], _∷_, _++_}
+use mathlib.Core.Bool.{cond, not}
+use mathlib.Core.List.{List, _++_}
 use Prim.Native.Nat.{ℕ, _+_, _*_, _≤_, _<_}
 use lib.ListN.{length, getD, drop}
 use Rattle.finite.specs.Tests.{same, tally}
 use Rattle.finite.specs.Range.{count}
 use Rattle.topology.specs.Networks.{Network, Reticulation, isReticulation, reticulations}
-use Rattle.topology.specs.Switchings.{Switching, onSecondary, parent}
+use Rattle.topology.specs.Switchings.{onSecondary, parent}
 use Rattle.topology.specs.Components.{component, members}
 use Rattle.reconciliation.specs.Mapping.{place, event, transfers, losses, duplicationCount, transferCount, lossCount, lcaCost}
 use Rattle.optimum.specs.Optimum.{assembled, trials, Optimal}
 use Rattle.optimum.specs.Machine.{searchAfter, AsScored}
-use Rattle.histories.specs.Histories.{Family, Least, LeastOverall, overall}
+use Rattle.histories.specs.Histories.{Least, LeastOverall, overall}
 use Rattle.histories.specs.Words.{word, costOf, cell, words}
 use Rattle.columns.specs.Lines.{written}
 use Rattle.report.specs.Reports.{reportOf}

@@ -1,15 +1,13 @@
 -- What the search found is what it promises: the last state's facts (crate optimum) and the tables of the switching reported; and all of it fits six
 -- columns.
 -- Assumes nothing.
-use mathlib.Core.Path.{_≡_, refl, sym, _∙_, ap}
+use mathlib.Core.Path.{_≡_, ap}
 use mathlib.Core.List.{List}
-use Prim.Native.Nat.{ℕ, _+_, _≤_, _<_}
+use Prim.Native.Nat.{ℕ, _<_}
 use native.Mathlib.Omega.{arith}
-use Rattle.finite.specs.Tests.{tally}
 use Rattle.finite.specs.Tables.{at}
 use Rattle.finite.proofs.Count.{count-le}
 use Rattle.topology.specs.Networks.{Network, isReticulation, reticulations}
-use Rattle.topology.specs.Switchings.{onSecondary, parent}
 use Rattle.topology.specs.Tables.{networkOf}
 use Rattle.reconciliation.specs.GeneTrees.{GeneTree}
 use Rattle.reconciliation.specs.Limits.{Limits}

@@ -2,17 +2,15 @@
 -- switching that they stand for; and the verdicts 0 with the equations of crates network and gene_tree prepare it.
 -- Assumes nothing.
 use mathlib.Core.Path.{_≡_, refl, sym, _∙_, ap}
-use mathlib.Core.Logic.{_≢_, _⊎_, inl, inr}
-use mathlib.Core.Bool.{Bool, true, false, cond, _&&_, not}
 use mathlib.Core.List.{List}
-use Prim.Native.Nat.{ℕ, zero, suc, _+_, _≤_, _<_}
+use Prim.Native.Nat.{ℕ, _≤_, _<_}
 use native.Mathlib.Omega.{arith}
-use Rattle.finite.specs.Tests.{same, tally}
-use Rattle.finite.specs.Tables.{at, filled, within}
+use Rattle.finite.specs.Tests.{tally}
+use Rattle.finite.specs.Tables.{at, within}
 use Rattle.finite.proofs.Cases.{byEq, byLess}
-use Rattle.finite.proofs.Tests.{is-same, not-same, and-no-r, tally-no}
+use Rattle.finite.proofs.Tests.{is-same, not-same, tally-no}
 use Rattle.finite.proofs.Tables.{within-in, within-zero, within-out}
-use Rattle.topology.specs.Networks.{Network, Node, Sound, Reticulation, isReticulation}
+use Rattle.topology.specs.Networks.{Network, Node, Reticulation}
 use Rattle.topology.specs.Switchings.{Switching, onSecondary, parent}
 use Rattle.topology.specs.Switchings as S
 use Rattle.topology.specs.Components.{component, settingOf}
@@ -22,7 +20,7 @@ use Rattle.topology.proofs.Above.{reticulation-node, off-plain}
 use Rattle.topology.proofs.Components.{component-node}
 use Rattle.reconciliation.specs.Mapping.{lcaCost}
 use Rattle.reconciliation.specs.GeneTrees.{GeneTree}
-use Rattle.gene_tree.specs.Genes.{zeros, leftTable, rightTable, leafTable}
+use Rattle.gene_tree.specs.Genes.{leftTable, rightTable, leafTable}
 use Rattle.gene_tree.specs.Refusals.{geneVerdict}
 use Rattle.gene_tree.proofs.Genes.{zeros-filled}
 use Rattle.network.specs.Tables.{table, membersFrom, indexFrom, heightIn}
@@ -31,13 +29,13 @@ use Rattle.network.proofs.Tables.{table-at, table-zero, table-out}
 use Rattle.network.proofs.Acceptance.{accepted}
 use Rattle.network.proofs.TopTables.{members-are, indices-are, heights-are}
 use Rattle.mapping.specs.Switched.{switchedOf, taken, Switched, Held}
-use Rattle.mapping.specs.Settings.{bitOf, markFrom, markAt, markTable, Parted, Numbered, upTable}
+use Rattle.mapping.specs.Settings.{markFrom, markAt, markTable, Parted, Numbered, upTable}
 use Rattle.mapping.specs.Genes.{genesOf, Family}
 use Rattle.mapping.specs.Score.{costsOf, scoreOf, Cheap}
 use Rattle.mapping.specs.declared.Score.{Score}
 use Rattle.mapping.specs.declared.UnitCosts.{UnitCosts}
 use Rattle.mapping.proofs.Held.{switched-held, score-are, family-held}
-use Rattle.mapping.proofs.Trials.{marks-held, numbered-held, parents-held, trial-held}
+use Rattle.mapping.proofs.Trials.{marks-held, numbered-held, trial-held}
 use Rattle.optimum.specs.Optimum.{assembled, trial, trialCost}
 use Rattle.search.specs.Prepared.{Prepared}
 use Rattle.search.specs.Reported.{markBy, reportedAt, reportedTable, Indexed}

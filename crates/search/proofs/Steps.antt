@@ -2,24 +2,21 @@
 -- machine would find by evaluating the best again.
 -- Assumes nothing.
 use mathlib.Core.Path.{_≡_, refl, sym, _∙_, ap}
-use mathlib.Core.Logic.{_≢_}
-use mathlib.Core.Bool.{Bool, true, false, cond, _||_}
 use mathlib.Core.List.{List}
-use Prim.Native.Nat.{ℕ, zero, suc, _+_, _*_, _^_, _≤_, _<_}
+use Prim.Native.Nat.{ℕ, suc, _+_, _≤_, _<_}
 use native.Mathlib.Numerals.{add-one}
 use native.Mathlib.Omega.{arith}
 use lib.ListN.{length, set, length-set}
 use lib.Seq.{getD-set-same}
-use Rattle.finite.specs.Tests.{same, under}
+use Rattle.finite.specs.Tests.{under}
 use Rattle.finite.specs.Range.{sum}
-use Rattle.finite.specs.Least.{firstLeast}
 use Rattle.finite.specs.Tables.{at}
 use Rattle.finite.proofs.Cases.{byBool, byEq, byLess}
 use Rattle.finite.proofs.Tests.{is-same, not-same, is-under, not-under}
 use Rattle.finite.proofs.Sum.{sum-more, sum-range-le}
 use Rattle.finite.proofs.Count.{count-le}
 use Rattle.finite.proofs.Least.{least-none}
-use Rattle.topology.specs.Networks.{Network, Sound, isReticulation, reticulations}
+use Rattle.topology.specs.Networks.{Network, isReticulation, reticulations}
 use Rattle.topology.specs.Components.{members}
 use Rattle.reconciliation.specs.GeneTrees.{GeneTree}
 use Rattle.reconciliation.specs.Mapping.{Costs}
@@ -32,7 +29,7 @@ use Rattle.mapping.specs.declared.UnitCosts.{UnitCosts}
 use Rattle.optimum.specs.Optimum.{trialsOf, settings, trials, trialCost}
 use Rattle.optimum.specs.Machine.{lesser, scored, scoredOf, stateOf, searchAfter}
 use Rattle.optimum.specs.Machine as M
-use Rattle.optimum.proofs.Machine.{put-table, put-same, after-bests, scored-iff}
+use Rattle.optimum.proofs.Machine.{put-table, after-bests, scored-iff}
 use Rattle.optimum.proofs.Search.{score-take, score-keep, search-start, search-turn, search-next, search-end, search-counted}
 use Rattle.optimum.proofs.Bounds.{trials-le}
 use Rattle.search.specs.declared.State.{State}

@@ -4,7 +4,7 @@
 use mathlib.Core.Path.{_≡_}
 use mathlib.Core.List.{List}
 use Prim.Native.Nat.{ℕ, _≤_}
-use Rattle.topology.specs.Networks.{Network, Sound}
+use Rattle.topology.specs.Networks.{Sound}
 use Rattle.topology.specs.Switchings as S
 use Rattle.topology.specs.Components as C
 use Rattle.topology.specs.Tables.{networkOf}

@@ -1,6 +1,5 @@
 -- The marks of the switching that is reported: each reticulation takes its bit of the best setting of its own component.
 -- Assumes nothing.
-use mathlib.Core.Path.{_≡_}
 use mathlib.Core.Logic.{_≢_}
 use mathlib.Core.Bool.{cond}
 use mathlib.Core.List.{List}

@@ -4,20 +4,18 @@
 use tables::wide;
 ghost use mathlib.Core.Path.{_≡_};
 ghost use mathlib.Core.Logic.{_≢_};
-ghost use Prim.Native.Nat.{ℕ, _+_, _≤_, _<_};
+ghost use Prim.Native.Nat.{_+_, _≤_, _<_};
 ghost use lib.ListN.{length};
-ghost use Rattle.finite.specs.Range.{sum};
-ghost use Rattle.finite.specs.Tables.{at, zeros};
+ghost use Rattle.finite.specs.Tables.{zeros};
 ghost use Rattle.topology.specs.Tables.{networkOf};
 ghost use Rattle.mapping.specs.Genes.{genesOf};
-ghost use Rattle.mapping.specs.Settings.{bitOf};
 ghost use Rattle.mapping.specs.Score.{costsOf};
 ghost use Rattle.mapping.specs.Evaluated.{Tabled};
-ghost use Rattle.optimum.specs.Optimum.{trialsOf, settings, trials, trialCost};
-ghost use Rattle.optimum.specs.Machine.{stateOf, scored, after, searchAfter};
+ghost use Rattle.optimum.specs.Optimum.{trialsOf, trials, trialCost};
+ghost use Rattle.optimum.specs.Machine.{stateOf, searchAfter};
 ghost use Rattle.search.specs.Prepared.{Prepared};
 ghost use Rattle.search.specs.Steps.{takes, settled, Awaiting, Scored, Reached};
-ghost use Rattle.search.specs.Reported.{markBy, reportedAt, reportedTable, Indexed};
+ghost use Rattle.search.specs.Reported.{markBy, reportedTable, Indexed};
 ghost use Rattle.search.specs.Searched.{Searched};
 
 // The state: the best setting so far of each component, at its top; what the best of the component being scored costs; the count of trials.

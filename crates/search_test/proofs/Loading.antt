@@ -1,10 +1,10 @@
 -- A table is loaded entry by entry; a loaded table has the stamps' bound, and a gene tree's parents stand in it alone.
 -- Assumes nothing.
-use mathlib.Core.Path.{_≡_, refl, sym, _∙_, fun-ext}
+use mathlib.Core.Path.{_≡_, sym, _∙_, fun-ext}
 use mathlib.Core.List.{List}
 use Prim.Native.Nat.{ℕ, _+_, _≤_, _<_}
 use native.Mathlib.Omega.{arith}
-use lib.ListN.{length, set, length-set}
+use lib.ListN.{set, length-set}
 use lib.Seq.{getD-set-same, getD-set-other}
 use Rattle.finite.specs.Tables.{at, within}
 use Rattle.finite.proofs.Cases.{byEq, byLess}

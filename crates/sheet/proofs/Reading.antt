@@ -1,26 +1,24 @@
 -- The header's answer from what reading its line told, and the turns of the loops over the later lines. A malformed line bears five zeros, so
 -- a line that bears its number, which is not 0, is well formed (`node-numbered`, `gene-numbered`): the cells tell all that 5 asks.
 -- Assumes nothing.
-use Prim.Native.Nat.{ℕ, zero, suc, _+_, _*_, _≤_, _<_}
+use Prim.Native.Nat.{ℕ, _+_, _*_, _≤_, _<_}
 use mathlib.Core.Path.{_≡_, refl, sym, ap, _∙_}
 use mathlib.Core.Logic.{_≢_}
-use mathlib.Core.Bool.{Bool, true, false, cond, _&&_, not}
+use mathlib.Core.Bool.{Bool, true, false, _&&_, not}
 use mathlib.Core.List.{List}
-use lib.ListN.{length, getD, replicate, getD-replicate}
+use lib.ListN.{length}
 use native.Mathlib.Omega.{arith}
 use Rattle.finite.specs.Tests.{same}
-use Rattle.finite.specs.Range.{every}
-use Rattle.finite.specs.Tables.{at, filled}
-use Rattle.finite.proofs.Cases.{byBool, byEq, clash}
-use Rattle.finite.proofs.Tests.{is-same, same-is, same-not, not-same, and-l, and-r, and-no-l, and-no-r, told-not-yes, told-not-no}
-use Rattle.finite.proofs.Every.{every-same}
-use Rattle.columns.specs.Lines.{fieldCount, lineLength, lineAt, malformed, LineIs, Small}
+use Rattle.finite.specs.Tables.{at}
+use Rattle.finite.proofs.Cases.{byBool, clash}
+use Rattle.finite.proofs.Tests.{is-same, same-is, not-same, and-no-r, told-not-yes, told-not-no}
+use Rattle.columns.specs.Lines.{fieldCount, lineLength, lineAt}
 use Rattle.columns.specs.declared.End.{End}
 use Rattle.columns.specs.declared.End.the-variants.{After, Malformed}
 use Rattle.columns.specs.declared.Reading.{Reading}
-use Rattle.columns.proofs.Lines.{malformed-zero, small-read}
+use Rattle.columns.proofs.Lines.{malformed-zero}
 use Rattle.sheet.specs.declared.Headed.the-variants.{Header as accepted, Refused}
-use Rattle.sheet.specs.Sheets.{zeros, found, lineNo, isLine, cell, nodes, genes, duplicationCost, transferCost, lossCost, limits, refuses3, refuses4, headerOf, whole, nodeLine, geneLine, refuses5, cellsOf, nodeNumbered, geneFieldsFit, geneNumbered, columnOf, nodeTable, geneTable}
+use Rattle.sheet.specs.Sheets.{found, lineNo, isLine, cell, nodes, genes, duplicationCost, transferCost, lossCost, limits, refuses3, refuses4, headerOf, whole, nodeLine, geneLine, cellsOf, nodeNumbered, geneFieldsFit, geneNumbered}
 use Rattle.sheet.proofs.Storing.{cells-at}
 
 -- the header, from what reading line 0 told

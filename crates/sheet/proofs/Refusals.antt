@@ -1,12 +1,11 @@
 -- The refusals 3, 4 and 5 as tests are those that a reader of 01 would state. A line is found just where the bytes are a line of numbers
 -- (`line-is` of columns), and a line has only one reading (`same-cells`), so each test over the lines is the statement about each line.
 -- Assumes nothing.
-use Prim.Native.Nat.{ℕ, zero, suc, _+_, _*_, _≤_, _<_}
+use Prim.Native.Nat.{ℕ, _+_, _*_, _≤_, _<_}
 use mathlib.Core.Path.{_≡_, refl, sym, ap, _∙_}
-use mathlib.Core.Logic.{_≢_, _↔_}
-use mathlib.Core.Bool.{Bool, true, false, _&&_, not}
+use mathlib.Core.Logic.{_↔_}
+use mathlib.Core.Bool.{Bool, true, false, _&&_}
 use mathlib.Core.List.{List}
-use lib.ListN.{length, take, drop}
 use native.Mathlib.Omega.{arith}
 use Rattle.finite.specs.Tests.{same}
 use Rattle.finite.specs.Range.{every}
@@ -15,7 +14,7 @@ use Rattle.finite.proofs.Cases.{byBool, clash}
 use Rattle.finite.proofs.Tests.{is-same, same-is, and-l, and-r, not-true, not-false, not-yes}
 use Rattle.finite.proofs.Every.{every-at, is-every, every-same}
 use Rattle.finite.proofs.Tables.{filled-same}
-use Rattle.columns.specs.Lines.{fieldCount, lineLength, lineAt, lineOf, Small, LineIs}
+use Rattle.columns.specs.Lines.{fieldCount, lineLength, lineAt, LineIs}
 use Rattle.columns.specs.declared.End.{End}
 use Rattle.columns.specs.declared.End.the-variants.{After, Malformed}
 use Rattle.columns.proofs.Lines.{line-is, small-read, one-line}

@@ -2,21 +2,16 @@
 -- place 5 · i + j holds field j of line i. Then the turns of the loops that fill and test them.
 -- Assumes nothing.
 use Prim.Native.Nat.{ℕ, zero, suc, _+_, _-_, _*_, _≤_, _<_}
-use mathlib.Core.Path.{_≡_, refl, sym, ap, _∙_}
-use mathlib.Core.Logic.{_≢_}
-use mathlib.Core.Bool.{Bool, true, false, cond, _&&_, _||_, not}
+use mathlib.Core.Path.{_≡_, refl, _∙_}
 use mathlib.Core.List.{List}
-use lib.ListN.{length, getD, set, replicate, length-set, length-replicate}
+use lib.ListN.{length, set, replicate, length-set, length-replicate}
 use lib.Seq.{getD-set-same, getD-set-other}
 use native.Mathlib.Numerals.{add-one}
 use native.Mathlib.Omega.{arith}
-use Rattle.finite.specs.Tests.{same}
-use Rattle.finite.specs.Range.{every}
-use Rattle.finite.specs.Tables.{at, filled}
-use Rattle.finite.proofs.Cases.{byBool, byEq, byLess, clash}
-use Rattle.finite.proofs.Tests.{is-same, same-is, not-same}
-use Rattle.columns.specs.Lines.{fieldCount, lineLength, lineAt}
-use Rattle.sheet.specs.Sheets.{zeros, lineNo, cell, stored, cellsOf}
+use Rattle.finite.specs.Tables.{at}
+use Rattle.finite.proofs.Cases.{byEq}
+use Rattle.columns.specs.Lines.{fieldCount}
+use Rattle.sheet.specs.Sheets.{lineNo, cell, stored, cellsOf}
 
 -- the turns of the loop that stores a line
 pub store-start : (cells : List ℕ) (i : ℕ) (line : List ℕ) → cells ≡ stored cells i line 0

@@ -13,7 +13,6 @@ use Rattle.columns.specs.Lines.{fieldCount, lineLength, lineAt, lineOf, Small}
 use Rattle.columns.specs.declared.End.{End}
 use Rattle.columns.specs.declared.End.the-variants.{After, Malformed}
 use Rattle.columns.specs.declared.Reading.{Reading}
-use Rattle.sheet.specs.declared.Header.{Header}
 use Rattle.sheet.specs.declared.Headed.{Headed}
 use Rattle.sheet.specs.declared.Headed.the-variants.{Header as accepted, Refused}
 

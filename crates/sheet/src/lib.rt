@@ -3,13 +3,12 @@ use columns::Cursor;
 use columns::End;
 use columns::Reading;
 ghost use mathlib.Core.Path.{_≡_};
-ghost use mathlib.Core.Bool.{_&&_};
-ghost use Prim.Native.Nat.{ℕ, _+_, _*_, _≤_, _<_};
+ghost use Prim.Native.Nat.{_+_, _*_, _≤_, _<_};
 ghost use lib.ListN.{length};
 ghost use Rattle.finite.specs.Tests.{same};
 ghost use Rattle.finite.specs.Range.{every};
 ghost use Rattle.finite.specs.Tables.{at, filled};
-ghost use Rattle.columns.specs.Lines.{lineAt, fieldCount};
+ghost use Rattle.columns.specs.Lines.{fieldCount};
 ghost use Rattle.sheet.specs.Sheets.{zeros, headerOf, limits, whole, stored, cellsOf, nodeNumbered, geneFieldsFit, geneNumbered, columnOf, found};
 
 // The sizes and costs of a header line.

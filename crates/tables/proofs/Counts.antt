@@ -9,7 +9,7 @@ use native.Mathlib.Omega.{arith}
 use lib.ListN.{set, length-set}
 use lib.Seq.{getD-set-same, getD-set-other}
 use Rattle.finite.specs.Tests.{same}
-use Rattle.finite.specs.Range.{count, children}
+use Rattle.finite.specs.Range.{children}
 use Rattle.finite.specs.Tables.{at, zeros}
 use Rattle.finite.proofs.Cases.{byEq, byLess}
 use Rattle.finite.proofs.Tests.{is-same, not-same}

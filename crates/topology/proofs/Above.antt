@@ -1,12 +1,11 @@
 -- Parents under a switching, and what is above what. The rank makes the height fall along every arc, so the laws of climbing hold for every
 -- switching (`falls`), and `above` is the reachability along on arcs (`above-is`, `is-above`).
 -- Assumes nothing.
-use mathlib.Core.Path.{_≡_, refl, sym, _∙_, ap}
+use mathlib.Core.Path.{_≡_, refl, sym, _∙_}
 use mathlib.Core.Logic.{_≢_}
-use mathlib.Core.Bool.{Bool, true, false, cond, _||_, _&&_, not, and-false, Bool·beq}
-use Prim.Native.Nat.{ℕ, zero, suc, _+_, _≤_, _<_}
+use mathlib.Core.Bool.{true, false, _&&_, and-false}
+use Prim.Native.Nat.{ℕ, suc, _<_}
 use native.Mathlib.Omega.{arith}
-use Rattle.finite.specs.Tests.{same}
 use Rattle.finite.proofs.Cases.{byBool, byEq, byOrder, clash}
 use Rattle.finite.proofs.Tests.{is-same, not-same}
 use Rattle.topology.specs.Climbing.{Falls}

@@ -3,20 +3,17 @@
 -- Assumes nothing.
 use mathlib.Core.Path.{_≡_, refl, sym, _∙_, ap}
 use mathlib.Core.Logic.{_≢_}
-use mathlib.Core.Bool.{Bool, true, false, cond, _||_, _&&_, not, and-false, Bool·beq}
-use Prim.Native.Nat.{ℕ, zero, suc, _+_, _≤_, _<_}
+use mathlib.Core.Bool.{true, false}
+use Prim.Native.Nat.{ℕ, _≤_, _<_}
 use native.Mathlib.Omega.{arith}
-use Rattle.finite.specs.Tests.{same}
-use Rattle.finite.specs.Range.{every}
 use Rattle.finite.proofs.Cases.{byBool, byEq, clash}
 use Rattle.finite.proofs.Tests.{is-same, same-is, not-same, beq-is, and-l, and-r}
 use Rattle.finite.proofs.Every.{every-at}
-use Rattle.topology.specs.Climbing.{Falls}
 use Rattle.topology.specs.Networks.{Network, Node, Sound, Reticulation, isReticulation}
 use Rattle.topology.specs.Switchings.{Switching, allPrincipal, parent, height, above}
 use Rattle.topology.specs.Components.{isTop, component, memberOf, Agree}
 use Rattle.topology.proofs.Climbing.{seek-eq}
-use Rattle.topology.proofs.Above.{parent-plain, parent-cases, parent-agree, principal-node, reticulation-node, node-principal, node-secondary, fall-principal, fall-secondary, falls, falls-principal, above-self, above-not, above-zero, above-low, above-anti, tree-not, tree-parent, network-ind, is-reticulation, reticulation-is}
+use Rattle.topology.proofs.Above.{parent-plain, parent-cases, parent-agree, reticulation-node, node-principal, node-secondary, fall-principal, fall-secondary, falls, falls-principal, above-self, above-not, above-zero, above-low, above-anti, tree-not, tree-parent, network-ind, is-reticulation, reticulation-is}
 
 module _ (N : Network) (ok : Sound N) where
   open Network N using (size, principal, secondary)

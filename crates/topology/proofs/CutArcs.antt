@@ -4,11 +4,9 @@
 -- Assumes nothing.
 use mathlib.Core.Path.{_≡_, refl, sym, _∙_, ap}
 use mathlib.Core.Logic.{_≢_, _↔_}
-use mathlib.Core.Bool.{Bool, true, false, cond, _||_, Bool·beq, Bool-discrete}
-use Prim.Native.Nat.{ℕ, zero, suc, _≤_, _<_}
+use mathlib.Core.Bool.{Bool, true, false, cond, Bool-discrete}
+use Prim.Native.Nat.{ℕ, _<_}
 use native.Mathlib.Omega.{arith}
-use Rattle.finite.specs.Tests.{same}
-use Rattle.finite.specs.Range.{every}
 use Rattle.finite.proofs.Cases.{byBool, byDec, byEq, clash}
 use Rattle.finite.proofs.Tests.{is-same, not-same, is-beq}
 use Rattle.finite.proofs.Every.{is-every}

@@ -1,15 +1,14 @@
 -- The lowest common node: it reaches both, and every node that reaches both reaches it (`lca-spec` in proofs/Above says so as one equation).
 -- Assumes nothing.
-use mathlib.Core.Path.{_≡_, refl, sym, _∙_, ap}
+use mathlib.Core.Path.{_≡_, sym, _∙_}
 use mathlib.Core.Logic.{_≢_}
-use mathlib.Core.Bool.{Bool, true, false, cond, _||_, _&&_, not, and-false}
-use Prim.Native.Nat.{ℕ, zero, suc, _+_, _≤_, _<_}
+use mathlib.Core.Bool.{true, _&&_}
+use Prim.Native.Nat.{ℕ}
 use native.Mathlib.Omega.{arith}
 use Rattle.finite.proofs.Cases.{byEq, clash}
 use Rattle.finite.proofs.Tests.{and-l, and-r}
-use Rattle.topology.specs.Climbing.{Falls}
-use Rattle.topology.specs.Networks.{Network, Node, Sound, Reticulation}
-use Rattle.topology.specs.Switchings.{Switching, allPrincipal, parent, height, above, lca}
+use Rattle.topology.specs.Networks.{Network, Node, Sound}
+use Rattle.topology.specs.Switchings.{Switching, parent, above, lca}
 use Rattle.topology.proofs.Above.{parent-cases, node-principal, node-secondary, falls, above-self, above-not, above-zero, network-ind, lca-spec}
 use Rattle.topology.proofs.Components.{above-top, top-root, root-above}
 

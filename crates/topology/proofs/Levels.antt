@@ -1,17 +1,14 @@
 -- The level of a node, the number of nodes of lower rank: below the number of nodes, and rising along every arc. A node of lower rank counts for
 -- the higher one and not for itself.
 -- Assumes nothing.
-use mathlib.Core.Path.{_≡_, refl, sym, _∙_, ap}
-use mathlib.Core.Logic.{_≢_}
-use mathlib.Core.Bool.{Bool, true, false}
-use Prim.Native.Nat.{ℕ, zero, suc, _+_, _≤_, _<_}
+use Prim.Native.Nat.{ℕ, _<_}
 use native.Mathlib.Omega.{arith}
 use Rattle.finite.specs.Tests.{under}
 use Rattle.finite.specs.Range.{count}
 use Rattle.finite.proofs.Tests.{is-under, not-under, under-is, tally-le}
 use Rattle.finite.proofs.Sum.{sum-short}
 use Rattle.finite.proofs.Count.{count-less}
-use Rattle.topology.specs.Networks.{Network, Node, Sound, level}
+use Rattle.topology.specs.Networks.{Network, Node, level}
 
 module _ (N : Network) where
   pub level-below : (v : ℕ) → Node N v → level N v < N .size

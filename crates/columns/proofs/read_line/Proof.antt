@@ -1,6 +1,6 @@
 -- Reading a line. The invariant: the line at the start is the rest of the line at the cursor, after the i numbers read so far.
 -- Assumes nothing.
-use Prim.Native.Nat.{_+_, _-_, _≤_}
+use Prim.Native.Nat.{_-_, _≤_}
 use mathlib.Core.Path.{_≡_, refl, sym, _∙_}
 use mathlib.Core.List.{[]}
 use lib.ListN.{length, take, length-set}

@@ -1,8 +1,7 @@
 -- Writing a line. The invariant: the first i fields are written over the front, and the rest is as it was.
 -- Assumes nothing.
 use Prim.Native.Nat.{_+_, _-_, _*_, _≤_}
-use mathlib.Core.Path.{_≡_, refl, sym, _∙_}
-use native.Mathlib.Omega.{arith}
+use mathlib.Core.Path.{_≡_, refl}
 use lib.ListN.{length}
 use Rattle.columns.specs.Lines.{fieldCount, fieldsOf, written}
 use Rattle.columns.proofs.Writing.{written-nil}

@@ -1,6 +1,6 @@
 -- How many entries are not 0. The invariant: r counts those of the first v.
 -- Assumes nothing.
-use Prim.Native.Nat.{_+_, _-_, _≤_}
+use Prim.Native.Nat.{_-_, _≤_}
 use mathlib.Core.Path.{_≡_}
 use Rattle.finite.specs.Range.{count}
 use Rattle.finite.proofs.Count.{count-start, count-turn, count-done}

@@ -1,6 +1,6 @@
 -- With x settings of component k + 1 scored the state is the one that 01 gives for so many steps; at the end all of them are.
 -- Assumes nothing.
-use Prim.Native.Nat.{_+_, _-_, _≤_}
+use Prim.Native.Nat.{_-_, _≤_}
 use native.Mathlib.Omega.{arith}
 use Rattle.topology.specs.Tables.{networkOf}
 use Rattle.mapping.specs.Genes.{genesOf}

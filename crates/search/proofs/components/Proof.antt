@@ -3,7 +3,7 @@
 -- Assumes nothing.
 use mathlib.Core.Logic.{⊎-elim}
 use borrow.Author.Needs.{needs}
-use Prim.Native.Nat.{_+_, _-_, _≤_}
+use Prim.Native.Nat.{_-_, _≤_}
 use native.Mathlib.Omega.{arith}
 use Rattle.topology.specs.Tables.{networkOf}
 use Rattle.gene_tree.specs.Genes.{zeros}

@@ -1,6 +1,6 @@
 -- The bit that shift and mask pick is the definition's.
 -- Assumes nothing.
-use Prim.Native.Nat.{_-_, _/_, _^_, _<_}
+use Prim.Native.Nat.{_-_, _/_, _^_}
 use lib.Bits.{and-mask}
 use native.Mathlib.Omega.{arith}
 use Rattle.finite.proofs.Tests.{is-same, not-same}

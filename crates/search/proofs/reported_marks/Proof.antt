@@ -1,11 +1,10 @@
 -- The marks of the nodes passed are filled in; a node's top is a node, so its best and its members can be read.
 -- Assumes nothing.
 use Rattle.search.proofs.Reporting.{top-low, top-few, top-below, reported-told}
-use Prim.Native.Nat.{_+_, _-_, _≤_}
+use Prim.Native.Nat.{_-_, _≤_}
 use mathlib.Core.Path.{_≡_}
-use Rattle.finite.specs.Tables.{at, filled}
+use Rattle.finite.specs.Tables.{filled}
 use Rattle.finite.proofs.Tables.{fill-loop}
-use native.Mathlib.Omega.{arith}
 use Rattle.gene_tree.specs.Genes.{zeros}
 use Rattle.search.specs.Reported.{reportedAt, reportedTable}
 use borrow.Author.Needs.{needs}

@@ -2,7 +2,6 @@
 -- Assumes nothing.
 use mathlib.Core.Path.{refl}
 use Rattle.finite.specs.Tables.{zeros}
-use borrow.Author.Needs.{needs}
 use Rattle.search.proofs.Preparing.{indexed-by, reported-switched, family-on}
 use Rattle.search.proofs.Findings.{found}
 use Rattle.search.proofs.run.Statement.{statement}

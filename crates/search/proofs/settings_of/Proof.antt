@@ -1,6 +1,6 @@
 -- A shift by at most 8 places is a power that fits, so nothing is cut off.
 -- Assumes nothing.
-use Prim.Native.Nat.{_*_, _^_, _≤_}
+use Prim.Native.Nat.{_^_, _≤_}
 use native.Mathlib.Nat.{pow-le-pow-right}
 use native.Mathlib.Omega.{arith}
 use Rattle.finite.proofs.Tests.{is-same, not-same}

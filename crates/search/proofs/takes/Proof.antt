@@ -3,7 +3,6 @@
 use Rattle.finite.specs.Tests.{same, under}
 use Rattle.finite.proofs.Tests.{is-same, not-same}
 use Rattle.search.specs.Steps.{takes}
-use borrow.Author.Needs.{needs}
 use Rattle.search.proofs.takes.Statement.{statement}
 use Rattle.search.proofs.takes.Tie as tie
 use Rattle.search.proofs.takes.Reads as reads

@@ -1,11 +1,8 @@
 -- The numbers of the lines. The invariant: the cells hold the first i lines; a turn stores line i.
 -- Assumes nothing.
-use Prim.Native.Nat.{_+_, _-_, _*_, _≤_}
-use mathlib.Core.Path.{_≡_, refl, ap}
-use lib.ListN.{length}
-use Rattle.columns.specs.Lines.{fieldCount}
-use Rattle.columns.specs.declared.Reading.{Reading}
-use Rattle.sheet.specs.Sheets.{cellsOf, lineNo, stored}
+use Prim.Native.Nat.{_-_, _≤_}
+use mathlib.Core.Path.{_≡_}
+use Rattle.sheet.specs.Sheets.{cellsOf, lineNo}
 use Rattle.sheet.proofs.Storing.{cells-turn, cells-done}
 use borrow.Author.Needs.{needs}
 use Rattle.sheet.proofs.cells.Statement.{statement}

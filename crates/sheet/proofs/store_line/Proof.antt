@@ -1,7 +1,7 @@
 -- Storing a line. The invariant: its first k numbers stand at their places.
 -- Assumes nothing.
-use Prim.Native.Nat.{_+_, _-_, _≤_}
-use mathlib.Core.Path.{_≡_, refl}
+use Prim.Native.Nat.{_-_, _≤_}
+use mathlib.Core.Path.{_≡_}
 use Rattle.columns.specs.Lines.{fieldCount}
 use Rattle.sheet.specs.Sheets.{stored}
 use Rattle.sheet.proofs.Storing.{store-start, store-turn, store-done}

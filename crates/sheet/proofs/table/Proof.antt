@@ -1,7 +1,7 @@
 -- A table of one field. The invariant: its first v entries are filled.
 -- Assumes nothing.
-use Prim.Native.Nat.{_+_, _-_, _*_, _≤_}
-use mathlib.Core.Path.{_≡_, refl}
+use Prim.Native.Nat.{_-_, _≤_}
+use mathlib.Core.Path.{_≡_}
 use Rattle.finite.specs.Tables.{filled}
 use Rattle.finite.proofs.Tables.{fill-loop}
 use Rattle.sheet.specs.Sheets.{zeros, columnOf}
