@@ -1,4 +1,4 @@
--- A gene tree as tables hold it: entry g is about gene g, and what stands outside 1..m is not read.
+-- A gene tree as the gene lines give it (01, "The sheet"): entry g of a table is about gene g, and what stands outside 1..m is not read.
 -- Assumes nothing.
 use mathlib.Core.List.{List}
 use Prim.Native.Nat.{ℕ}

@@ -1,5 +1,5 @@
 -- A gene tree on a switched network as tables hold it, and what the tables give for each gene: its place from its children's, its event, the
--- transfers and losses on its way. Each equals the definition of crate reconciliation (proofs/Mapped).
+-- transfers and losses on its way (01, "Settings and placement"). Each equals the definition of crate reconciliation (proofs/Mapped).
 -- Assumes nothing.
 use mathlib.Core.Logic.{_≢_}
 use mathlib.Core.Bool.{cond, _&&_, _||_, not}

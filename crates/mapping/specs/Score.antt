@@ -1,4 +1,5 @@
--- The counts of events over all genes and the last-common-ancestor cost, as one value.
+-- The counts of events over all genes and the last-common-ancestor cost, "D × duplications + T × transfers + L × losses over all genes" (01,
+-- "Settings and placement"), as one value.
 -- Assumes nothing.
 use Prim.Native.Nat.{ℕ, _+_, _*_, _≤_}
 use Rattle.finite.specs.Tests.{same, tally}
@@ -29,7 +30,7 @@ chargedBy u s event transfers losses = record {
   cost = s .cost + u .duplication * tally (same event 2) + u .transfer * transfers + u .loss * losses;
 }
 
--- each cost is at most 99
+-- "each cost 0 to 99" (01, "The sheet")
 pub record Cheap (u : UnitCosts) : Type 0 where
   pub duplication : u .duplication ≤ 99
   pub transfer : u .transfer ≤ 99

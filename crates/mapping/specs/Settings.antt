@@ -12,7 +12,8 @@ use Rattle.topology.specs.Components.{component, indexOf}
 use Rattle.topology.specs.Components as C
 use Rattle.gene_tree.specs.Genes.{zeros}
 
--- of a number of k bits, the bit of the reticulation that has j lower-numbered ones in its component: the highest is the lowest-numbered one's
+-- "a number below 2^k whose highest bit belongs to the lowest-numbered reticulation, 1 meaning the secondary parent" (01, "Settings and placement"):
+-- the bit of the reticulation that has j lower-numbered ones in its component
 unfoldable pub bitOf : ℕ → ℕ → ℕ → ℕ
 bitOf x k j = x / 2 ^ (k - 1 - j) % 2
 

@@ -18,7 +18,7 @@ ghost use Rattle.mapping.specs.Charges.{weightTable, Weights, Meeting, P
 ghost use Rattle.reconciliation.specs.Mapping.{lcaCost};
 
 // The bit of the reticulation with j lower-numbered ones in its component, of a setting's k bits: the highest is the lowest-numbered one's.
-fn bit(x: u32, k: u32, j: u32) -> u32
+pub fn bit(x: u32, k: u32, j: u32) -> u32
     requires { ⌜ (j < k) × (k ≤ 8) ⌝ }
     ensures { λ r. ⌜ r ≡ bitOf x k j ⌝ }
 {

@@ -85,7 +85,7 @@ unfoldable pub indexFrom : ℕ → (secondary tops : List ℕ) → ℕ → ℕ
 indexFrom n secondary tops r = count n (earlierAt secondary tops (at tops r) r)
 
 -- the components as tables: the top of each node's, and how many reticulations each has (01, refusal 11)
-pub record Parted (n : ℕ) (principal secondary stamp tops members : List ℕ) : Type 0 where
+pub record ComponentTables (n : ℕ) (principal secondary stamp tops members : List ℕ) : Type 0 where
   pub top : tops ≡ table n (component (networkOf n principal secondary stamp))
   pub held : members ≡ table n (membersFrom n secondary tops)
 

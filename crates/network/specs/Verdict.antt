@@ -1,5 +1,5 @@
--- The verdict on a network: the first refusal of 6 to 11 that applies ("checked in number order and the first that applies is given"), or 0; and
--- what an accepted network is (`Accepted`), for the layers above.
+-- The verdict on a network: the first refusal of 6 to 11 that applies ("checked in number order and the first that applies is given", 01,
+-- "Refusals"), or 0; and what an accepted network is (`Accepted`), for the layers above.
 -- Assumes nothing.
 use mathlib.Core.Path.{_≡_}
 use mathlib.Core.Logic.{_≢_}

@@ -11,7 +11,7 @@ ghost use Rattle.tables.specs.Children.{Counted};
 ghost use Rattle.network.specs.Refusals.{refusal11};
 ghost use Rattle.topology.specs.Networks.{Sound};
 ghost use Rattle.topology.specs.Tables.{networkOf};
-ghost use Rattle.network.specs.Tables.{table, memberWith, memberAt, membersFrom, reticulationTopAt, earlierAt, indexFrom, crowdedFrom, Parted};
+ghost use Rattle.network.specs.Tables.{table, memberWith, memberAt, membersFrom, reticulationTopAt, earlierAt, indexFrom, crowdedFrom, ComponentTables};
 
 fn member_with(s: u32, top: usize, c: usize) -> bool
     ensures { λ r. ⌜ r ≡ memberWith s top c ⌝ }
@@ -144,7 +144,7 @@ pub fn eleven(
     requires { ⌜ (n ≤ 127) × (now top ≡ zeros) × (now held ≡ zeros) ⌝ }
     requires { ⌜ Sound (networkOf n (now principal) (now secondary) (now stamp)) ⌝ }
     ensures { λ r. ⌜ r ≡ refusal11 (networkOf n (now (principal .entry)) (now (secondary .entry)) (now (stamp .entry))) ⌝ }
-    ensures { λ _. ⌜ Parted n (now (principal .entry)) (now (secondary .entry)) (now (stamp .entry)) (now (top .exit)) (now (held .exit)) ⌝ }
+    ensures { λ _. ⌜ ComponentTables n (now (principal .entry)) (now (secondary .entry)) (now (stamp .entry)) (now (top .exit)) (now (held .exit)) ⌝ }
 {
     tops(n, principal, secondary, stamp, top);
     members(n, secondary, top, held);

@@ -14,7 +14,7 @@ use shapes::ten;
 ghost use mathlib.Core.Path.{_≡_};
 ghost use Prim.Native.Nat.{_≤_};
 ghost use Rattle.finite.specs.Tables.{zeros};
-ghost use Rattle.network.specs.Tables.{Parted};
+ghost use Rattle.network.specs.Tables.{ComponentTables};
 ghost use Rattle.network.specs.Verdict.{networkVerdict};
 
 // The first refusal of 6 to 11 that applies, or 0; where none does, also the top of each node's component and how many reticulations each has, in two
@@ -30,7 +30,7 @@ pub fn verdict(
 ) -> u32
     requires { ⌜ (n ≤ 127) × (now top ≡ zeros) × (now held ≡ zeros) ⌝ }
     ensures { λ r. ⌜ r ≡ networkVerdict n (now (principal .entry)) (now (secondary .entry)) (now (stamp .entry)) (now (species .entry)) ⌝ }
-    ensures { λ r. ⌜ (r ≡ 0 → Parted n (now (principal .entry)) (now (secondary .entry)) (now (stamp .entry)) (now (top .exit)) (now (held .exit))) ⌝ }
+    ensures { λ r. ⌜ (r ≡ 0 → ComponentTables n (now (principal .entry)) (now (secondary .entry)) (now (stamp .entry)) (now (top .exit)) (now (held .exit))) ⌝ }
 {
     if six(n, principal, secondary) {
         return 6;

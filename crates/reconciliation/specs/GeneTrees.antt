@@ -1,4 +1,4 @@
--- Gene trees whose leaf genes sit at leaves of a species network.
+-- Gene trees whose leaf genes sit at leaves of a species network (001, section 2; 01, "The sheet" and the gene tree's refusals).
 -- Assumes nothing.
 use mathlib.Core.Path.{_≡_}
 use mathlib.Core.Logic.{_≢_, _⊎_}
@@ -13,7 +13,8 @@ pub record GeneTree : Type 0 where
   pub leaf : ℕ → ℕ
   pub parent : ℕ → ℕ
 
--- a tree with root 1 in which children have higher numbers than their parents; a parent has two children, and what is no gene has none
+-- what refusal 12 of 01 leaves: a tree with root 1 in which children have higher numbers than their parents; a parent has two children, and what is no
+-- gene has none
 pub record Rooted (G : GeneTree) : Type 0 where
   pub some : 1 ≤ G .count
   pub root : G .parent 1 ≡ 0
@@ -29,6 +30,6 @@ pub record Rooted (G : GeneTree) : Type 0 where
   pub parent-inner : (g : ℕ) → G .parent g ≢ 0 → G .left (G .parent g) ≢ 0
   pub is-child : (g : ℕ) → G .parent g ≢ 0 → (G .left (G .parent g) ≡ g) ⊎ (G .right (G .parent g) ≡ g)
 
--- each leaf gene sits at a node
+-- "a leaf gene sits at its species' leaf" (01, "Settings and placement"), which refusal 13 makes a node
 pub record Seated (N : Network) (G : GeneTree) : Type 0 where
   pub seat : (g : ℕ) → 1 ≤ g → g ≤ G .count → G .left g ≡ 0 → Node N (G .leaf g)

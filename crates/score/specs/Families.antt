@@ -1,4 +1,4 @@
--- What a sheet says: its numbers as tables, and the network, the gene tree, the costs and the gene family that they describe.
+-- What a sheet says (01, "The sheet"): its numbers as tables, and the network, the gene tree, the costs and the gene family that they describe.
 -- Assumes nothing.
 use mathlib.Core.List.{List}
 use Prim.Native.Nat.{ℕ}

@@ -9,7 +9,7 @@ use Rattle.sheet.specs.Sheets.{zeros, columnOf, headerOf}
 use Rattle.sheet.specs.declared.Header.{Header}
 use Rattle.sheet.specs.declared.Headed.the-variants.{Header as accepted}
 use Rattle.columns.specs.Lines.{written}
-use Rattle.network.specs.Tables.{table, heightIn, indexFrom, Parted}
+use Rattle.network.specs.Tables.{table, heightIn, indexFrom, ComponentTables}
 use Rattle.network.specs.Verdict.{networkVerdict}
 use Rattle.gene_tree.specs.Refusals.{geneVerdict}
 use Rattle.gene_tree.specs.Genes.{leftTable, rightTable, leafTable}
@@ -71,7 +71,7 @@ pub record Passed (X : Tables) : Type 0 where
 -- the tables that are worked out once for a family: heights, the components' tops, members and indices, the genes' children and leaves
 pub record Worked (X : Tables) (height top members index left right leaf : List ℕ) : Type 0 where
   pub heights : height ≡ table 127 (heightIn (X .nodes) (X .secondary) (X .stamp))
-  pub parted : Parted (X .nodes) (X .principal) (X .secondary) (X .stamp) top members
+  pub parted : ComponentTables (X .nodes) (X .principal) (X .secondary) (X .stamp) top members
   pub indices : index ≡ table (X .nodes) (indexFrom (X .nodes) (X .secondary) top)
   pub lefts : left ≡ leftTable (X .genes) (X .parent)
   pub rights : right ≡ rightTable (X .genes) (X .parent)

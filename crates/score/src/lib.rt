@@ -11,7 +11,7 @@ ghost use Rattle.finite.specs.Tests.{same, tally};
 ghost use Rattle.finite.specs.Range.{count};
 ghost use Rattle.columns.specs.Lines.{written};
 ghost use Rattle.report.specs.Reports.{hasSecondary, reportLength};
-ghost use Rattle.network.specs.Tables.{Parted};
+ghost use Rattle.network.specs.Tables.{ComponentTables};
 ghost use Rattle.mapping.specs.Evaluated.{Tabled};
 ghost use Rattle.score.specs.Families.{tablesOf};
 ghost use Rattle.score.specs.Refusals.{curators, firstFrom, refusal};
@@ -222,7 +222,7 @@ fn write_family(
 ) -> usize
     requires { ⌜ Sized (tablesBy h (now principal) (now secondary) (now stamp) (now species) (now parent) (now kind)) (length (now result)) (length (now scratch)) ⌝ }
     requires { ⌜ Passed (tablesBy h (now principal) (now secondary) (now stamp) (now species) (now parent) (now kind)) ⌝ }
-    requires { ⌜ Parted (h .nodes) (now principal) (now secondary) (now stamp) (now top) (now members) ⌝ }
+    requires { ⌜ ComponentTables (h .nodes) (now principal) (now secondary) (now stamp) (now top) (now members) ⌝ }
     ensures { λ r. ⌜ Written (tablesBy h (now (principal .entry)) (now (secondary .entry)) (now (stamp .entry)) (now (species .entry)) (now (parent .entry)) (now (kind .entry))) (now (result .entry)) (now (result .exit)) (now (scratch .entry)) (now (scratch .exit)) r ⌝ }
 {
     let n = h.nodes;

@@ -1,4 +1,5 @@
--- The marks of the switching that is reported: each reticulation takes its bit of the best setting of its own component.
+-- The marks of the switching that is reported, "the bests of its last state" (01, "Settings and placement"): each reticulation takes its bit of the
+-- best setting of its own component.
 -- Assumes nothing.
 use mathlib.Core.Logic.{_≢_}
 use mathlib.Core.Bool.{cond}

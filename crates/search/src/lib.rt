@@ -258,7 +258,7 @@ fn mark_by(x: u32, k: u32, s: u32, j: u32) -> u32
     if s == 0 {
         return 0;
     }
-    (x >> (k - 1 - j)) & 1
+    mapping::bit(x, k, j)
 }
 
 // The marks of the on secondary arcs under the switching put together from the bests.

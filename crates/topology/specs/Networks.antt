@@ -30,7 +30,8 @@ isReticulation N r = not (same (N .secondary r) 0)
 unfoldable pub reticulations : Network → ℕ
 reticulations N = count (N .size) (isReticulation N)
 
--- what the theory asks of a network: parents are nodes, the rank rises along every arc, one node has no principal parent
+-- what the theory asks of a network, and refusals 6, 7 and 8 of 01 leave: parents are nodes, the rank rises along every arc, one node has no principal
+-- parent
 pub record Sound (N : Network) : Type 0 where
   pub zero-principal : N .principal 0 ≡ 0
   pub zero-secondary : N .secondary 0 ≡ 0
