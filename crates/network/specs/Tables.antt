@@ -1,6 +1,7 @@
 -- Tables that the code fills (128 entries, f at 1..n and 0 elsewhere), and the marks by which it finds the tops.
 -- Assumes nothing.
 use mathlib.Core.Path.{_≡_}
+use mathlib.Core.Logic.{_≢_}
 use mathlib.Core.Bool.{Bool, _&&_, _||_, not, cond, Bool·beq}
 use mathlib.Core.List.{List}
 use Prim.Native.Nat.{ℕ, suc, _≤_, _<_}
@@ -88,6 +89,13 @@ indexFrom n secondary tops r = count n (earlierAt secondary tops (at tops r) r)
 pub record ComponentTables (n : ℕ) (principal secondary stamp tops members : List ℕ) : Type 0 where
   pub top : tops ≡ table n (component (networkOf n principal secondary stamp))
   pub held : members ≡ table n (membersFrom n secondary tops)
+
+-- what the verdict r leaves in two tables lent as zeros: 11 is the first to ask for the components, so a refusal before it leaves them as they were
+-- (01, "Refusals": "checked in number order")
+pub record HandedOver (n : ℕ) (principal secondary stamp tops members : List ℕ) (r : ℕ) : Type 0 where
+  pub accepted : r ≡ 0 → ComponentTables n principal secondary stamp tops members
+  pub crowded : r ≡ 11 → ComponentTables n principal secondary stamp tops members
+  pub untouched : r ≢ 0 → r ≢ 11 → (tops ≡ zeros) × (members ≡ zeros)
 
 -- component c has more than 8 members by their table
 unfoldable pub crowdedFrom : List ℕ → ℕ → Bool

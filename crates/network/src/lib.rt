@@ -14,11 +14,11 @@ use shapes::ten;
 ghost use mathlib.Core.Path.{_≡_};
 ghost use Prim.Native.Nat.{_≤_};
 ghost use Rattle.finite.specs.Tables.{zeros};
-ghost use Rattle.network.specs.Tables.{ComponentTables};
+ghost use Rattle.network.specs.Tables.{HandedOver};
 ghost use Rattle.network.specs.Verdict.{networkVerdict};
 
-// The first refusal of 6 to 11 that applies, or 0; where none does, also the top of each node's component and how many reticulations each has, in two
-// tables lent as zeros: 11 asks for both, and whoever goes on needs them.
+// The first refusal of 6 to 11 that applies, or 0. Two tables are lent as zeros, for the top of each node's component and how many reticulations each
+// has: 11 asks for both, and whoever goes on needs them; a refusal before 11 leaves them as they were.
 pub fn verdict(
     n: usize,
     principal: &[u32; 128],
@@ -30,7 +30,7 @@ pub fn verdict(
 ) -> u32
     requires { ⌜ (n ≤ 127) × (now top ≡ zeros) × (now held ≡ zeros) ⌝ }
     ensures { λ r. ⌜ r ≡ networkVerdict n (now (principal .entry)) (now (secondary .entry)) (now (stamp .entry)) (now (species .entry)) ⌝ }
-    ensures { λ r. ⌜ (r ≡ 0 → ComponentTables n (now (principal .entry)) (now (secondary .entry)) (now (stamp .entry)) (now (top .exit)) (now (held .exit))) ⌝ }
+    ensures { λ r. ⌜ HandedOver n (now (principal .entry)) (now (secondary .entry)) (now (stamp .entry)) (now (top .exit)) (now (held .exit)) r ⌝ }
 {
     if six(n, principal, secondary) {
         return 6;

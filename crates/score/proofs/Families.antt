@@ -111,7 +111,7 @@ module _ (h : Header) (p c t k q x : List ℕ) (b w : ℕ) (S : Sized (tablesBy 
   module _ (height top size index left right leaf : List ℕ) (E : Worked (tablesBy h p c t k q x) height top size index left right leaf) where
     pub prepares : Prepared (h .nodes) p c t height top size index (h .genes) left right leaf q (record { duplication = h .duplication; transfer = h .transfer; loss = h .loss })
     prepares = prepared (h .nodes) p c t k height top size index (h .genes) left right leaf q x u (S .few-nodes) (S .few-genes) (S .some-gene)
-        (record { duplication = S .duplication-low; transfer = S .transfer-low; loss = S .loss-low }) (S .parent-clear) (P .network) (P .genes) (E .heights) (E .parted .top) (E .parted .held) (E .indices) (E .lefts) (E .rights) (E .leaves)
+        (record { duplication = S .duplication-low; transfer = S .transfer-low; loss = S .loss-low }) (S .parent-clear) (P .network) (P .genes) (E .heights) (E .components .top) (E .components .held) (E .indices) (E .lefts) (E .rights) (E .leaves)
 
     genes-is : genesOf (h .genes) left right leaf q ≡ geneTreeOf (h .nodes) (h .genes) q x k
     genes-is = rw (E .lefts, E .rights, E .leaves) (genes-are (h .nodes) (h .genes) q x k (S .few-genes) (S .parent-clear))
@@ -176,13 +176,13 @@ module _ (h : Header) (p c t k q x : List ℕ) (b w : ℕ) (S : Sized (tablesBy 
       n-low = S .few-nodes
 
       top-at : (v : ℕ) → 1 ≤ v → v ≤ h .nodes → at top v ≡ component N v
-      top-at v a l = ap (λ (y : List ℕ). at y v) (E .parted .top) ∙ table-at (h .nodes) (component N) n-low v a l
+      top-at v a l = ap (λ (y : List ℕ). at y v) (E .components .top) ∙ table-at (h .nodes) (component N) n-low v a l
 
       size-at : (v : ℕ) → 1 ≤ v → v ≤ h .nodes → at size v ≡ members N v
       size-at v a l = ap (λ (y : List ℕ). at y v) (prepares .sizes) ∙ table-at (h .nodes) (members N) n-low v a l
 
       top-low : (v : ℕ) → at top v ≤ 127
-      top-low v = rw (E .parted .top) (table-low (h .nodes) 127 (component N) n-low (λ y a l. component-small (h .nodes) (h .genes) (h .duplication) (h .transfer) (h .loss) p c t k q x admitted y (omega arith)) v)
+      top-low v = rw (E .components .top) (table-low (h .nodes) 127 (component N) n-low (λ y a l. component-small (h .nodes) (h .genes) (h .duplication) (h .transfer) (h .loss) p c t k q x admitted y (omega arith)) v)
 
       size-low : (v : ℕ) → at size v ≤ 8
       size-low v = rw (prepares .sizes) (table-low (h .nodes) 8 (members N) n-low (λ y a l. prepares .few y) v)

@@ -71,7 +71,7 @@ pub record Passed (X : Tables) : Type 0 where
 -- the tables that are worked out once for a family: heights, the components' tops, members and indices, the genes' children and leaves
 pub record Worked (X : Tables) (height top members index left right leaf : List ℕ) : Type 0 where
   pub heights : height ≡ table 127 (heightIn (X .nodes) (X .secondary) (X .stamp))
-  pub parted : ComponentTables (X .nodes) (X .principal) (X .secondary) (X .stamp) top members
+  pub components : ComponentTables (X .nodes) (X .principal) (X .secondary) (X .stamp) top members
   pub indices : index ≡ table (X .nodes) (indexFrom (X .nodes) (X .secondary) top)
   pub lefts : left ≡ leftTable (X .genes) (X .parent)
   pub rights : right ≡ rightTable (X .genes) (X .parent)

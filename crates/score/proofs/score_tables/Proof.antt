@@ -25,7 +25,7 @@ write-family-requires : tie.Need-write-family-requires
 write-family-requires c κs =
     let network = c .before .before .before .before .before .before .before .verdict .ensures in
     let none = c .before .before .before .before .before .before .if1 .left in
-    (c .before .before .before .before .before .before .before .before .before .before .before .before .pre, (passes _ _ (network .0) none _ (c .before .before .before .before .before .verdict2 .ensures) (c .before .before .before .before .if2 .left), network .1 none))
+    (c .before .before .before .before .before .before .before .before .before .before .before .before .pre, (passes _ _ (network .0) none _ (c .before .before .before .before .before .verdict2 .ensures) (c .before .before .before .before .if2 .left), network .1 .accepted none))
 
 same-length : tie.Need-same-length
 same-length c = search needs

@@ -33,7 +33,7 @@ write-worked-requires c κs =
         s .1 .0,
         record {
           heights = c .before .before .before .before .before .before .before .before .before .before .before .before .before .before .before .before .heights .ensures;
-          parted = s .1 .1;
+          components = s .1 .1;
           indices = c .before .before .before .before .before .before .before .before .before .before .before .before .before .before .indices .ensures;
           lefts = c .before .before .before .before .before .before .before .before .before .before .before .before .left-children .ensures;
           rights = c .before .before .before .before .before .before .before .before .before .right-children .ensures;
