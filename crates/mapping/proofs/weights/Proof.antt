@@ -1,3 +1,6 @@
+-- `mapping::weights` meets its contract. The invariant: the entries passed hold the transfer by which a node is reached and the loss of a node with two
+-- on arcs; the products stay small because marks are 0 or 1 and costs at most 99.
+-- Assumes nothing.
 use borrow.Author.Needs.{needs}
 use Prim.Native.Nat.{ℕ, _+_, _-_, _*_, _≤_}
 use mathlib.Core.Path.{_≡_, ap}

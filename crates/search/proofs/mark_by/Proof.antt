@@ -2,7 +2,6 @@
 -- Assumes nothing.
 use Rattle.finite.proofs.Tests.{is-same, not-same}
 use Rattle.search.specs.Reported.{markBy}
-use borrow.Author.Needs.{needs}
 use Rattle.search.proofs.mark_by.Statement.{statement}
 use Rattle.search.proofs.mark_by.Tie as tie
 
