@@ -29,11 +29,14 @@ slice-aggregate-write-all c = sym (length-take-le _ _ (omega (arith, report-fits
 write-all-requires : tie.Need-write-all-requires
 write-all-requires c κs = search needs
 
+show-words-requires : tie.Need-show-words-requires
+show-words-requires c κs = search needs
+
 enum-known-answer-2 : tie.Need-enum-known-answer-2
 enum-known-answer-2 c = search needs
 
-refuse-requires : tie.Need-refuse-requires
-refuse-requires c κs = refused-small (c .before .before .before .before .before .score .ensures) (c .before .answer2 .given .1)
+show-requires : tie.Need-show-requires
+show-requires c κs = omega (arith, refused-small (c .before .before .before .before .before .score .ensures) (c .before .answer2 .given .1))
 
 returns : tie.Need-returns
 returns c = search needs
@@ -52,7 +55,8 @@ score-one-spec =
     array-share-prefix-result
     slice-aggregate-write-all
     write-all-requires
+    show-words-requires
     enum-known-answer-2
-    refuse-requires
+    show-requires
     returns
     returns-2)

@@ -1,3 +1,0 @@
-pub mod Acceptable
-pub mod Sheets
-pub mod Computed
