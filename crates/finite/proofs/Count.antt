@@ -3,14 +3,14 @@
 -- Assumes nothing.
 use mathlib.Core.Path.{_≡_, refl, sym, ap}
 use mathlib.Core.Logic.{_≢_}
-use mathlib.Core.Bool.{Bool, true, false, not}
+use mathlib.Core.Bool.{Bool, true, false, _&&_, not, cond}
 use Prim.Native.Nat.{ℕ, zero, suc, _+_, _*_, _≤_, _<_}
 use native.Mathlib.Omega.{arith}
 use Rattle.finite.specs.Tests.{same, tally}
 use Rattle.finite.specs.Range.{sum, count, children}
 use Rattle.finite.proofs.Cases.{byBool, byEq, clash}
-use Rattle.finite.proofs.Tests.{is-same, not-same, tally-le, tally-imp}
-use Rattle.finite.proofs.Sum.{sum-zero-range, sum-more, sum-same, sum-le, sum-mul, sum-zero, sum-bound, sum-swap, sum-at, sum-two, sum-short}
+use Rattle.finite.proofs.Tests.{is-same, not-same, and-l, and-yes, and-no-r, tally-le, tally-imp}
+use Rattle.finite.proofs.Sum.{sum-zero-range, sum-more, sum-same, sum-le, sum-mul, sum-zero, sum-bound, sum-swap, sum-point, sum-at, sum-two, sum-short}
 
 pub count-same : (n : ℕ) (f g : ℕ → Bool) → ((v : ℕ) → 1 ≤ v → v ≤ n → f v ≡ g v) → count n f ≡ count n g
 unfolding count
@@ -44,6 +44,16 @@ unfolding count
 count-two n v w f lv uv lw uw d a b = omega (arith, sum-two n v w (λ x. tally (f x)) lv uv lw uw d, ap tally a, ap tally b)
 
 -- none is counted where none passes
+pub count-three : (n u v w : ℕ) (f : ℕ → Bool) → 1 ≤ u → u ≤ n → 1 ≤ v → v ≤ n → 1 ≤ w → w ≤ n → u ≢ v → u ≢ w → v ≢ w → f u ≡ true → f v ≡ true → f w ≡ true → 3 ≤ count n f
+count-three n u v w f lu hu lv hv lw hw uv uw vw fu fv fw = omega (
+  arith,
+  count-less n u others f (λ x t. and-l (f x) (not (same x u)) t) lu hu (and-no-r (f u) (not (same u u)) (rw (is-same {m = u} refl))) fu,
+  count-two n v w others lv hv lw hw vw (and-yes (f v) (not (same v u)) fv (rw (not-same (λ e. uv (sym e))))) (and-yes (f w) (not (same w u)) fw (rw (not-same (λ e. uw (sym e))))),
+)
+  where
+    others : ℕ → Bool
+    others x = f x && not (same x u)
+
 pub count-zero : (n : ℕ) (f : ℕ → Bool) → ((v : ℕ) → 1 ≤ v → v ≤ n → f v ≡ false) → count n f ≡ 0
 unfolding count
 count-zero n f h = sum-zero n _ (λ v l u. rw (h v l u))
@@ -76,6 +86,11 @@ pub count-guarded : (n c : ℕ) (b : Bool) (f : ℕ → Bool) → ((v : ℕ) →
 count-guarded n c true f h l = omega arith
 count-guarded n c false f h l = omega (arith, count-zero n f (λ v _ _. byBool (f v) (λ t. clash (h v t) refl) (λ t. t)))
 
+-- children by the parents of 1..n alone
+pub children-same : (n : ℕ) (f g : ℕ → ℕ) (v : ℕ) → ((x : ℕ) → 1 ≤ x → x ≤ n → f x ≡ g x) → children n f v ≡ children n g v
+unfolding children
+children-same n f g v e = count-same n _ _ (λ x l u. ap (λ (y : ℕ). same y v) (e x l u))
+
 -- each of 1..n is the child of at most one, and the root of none
 pub children-few : (n root : ℕ) (parent : ℕ → ℕ) → 1 ≤ root → root ≤ n → parent root ≡ 0 → sum n (children n parent) < n
 unfolding children count
@@ -96,6 +111,18 @@ unfolding children count
 children-all n parent h = rw (sum-swap n n (λ v x. tally (same (parent x) v))) (sum-le n _ _ (λ x l u. byEq (parent x) 0
     (λ e. rw (is-same e) (omega arith))
     (λ d. rw (not-same d) (count-some n (parent x) (same (parent x)) (omega arith) (h x l u) (is-same {m = parent x} refl)))))
+
+-- one number changes its parent: f and g are the same but at r
+pub children-change : (n r : ℕ) (f g : ℕ → ℕ) → 1 ≤ r → r ≤ n → ((x : ℕ) → x ≢ r → g x ≡ f x) → (v : ℕ)
+    → children n g v + tally (same (f r) v) ≡ children n f v + tally (same (g r) v)
+unfolding children count
+children-change n r f g l u h v = omega (arith, one f (λ x d. refl), one g h)
+  where
+    others : ℕ → ℕ
+    others x = cond (same x r) 0 (tally (same (f x) v))
+
+    one : (k : ℕ → ℕ) → ((x : ℕ) → x ≢ r → k x ≡ f x) → sum n (λ x. tally (same (k x) v)) ≡ sum n others + tally (same (k r) v)
+    one k e = sum-point n others (λ x. tally (same (k x) v)) r (tally (same (k r) v)) l u (λ x d. rw (not-same d, e x d)) (rw (is-same {m = r} refl) (omega arith))
 
 -- the turns of a loop that counts: q is the tally of the test at v + 1
 pub count-start : (f : ℕ → Bool) → 0 ≡ count 0 f

@@ -52,6 +52,9 @@ is-some zero v f l u t = absurd (omega arith)
 is-some (suc k) v f l u t = byEq v (suc k) (λ e. let q : f (suc k) ≡ true = rw e at t in rw q)
     (λ d. byBool (f (suc k)) (λ q. rw q) (λ q. rw q (is-some k v f l (omega arith) t)))
 
+pub not-some : (n : ℕ) (f : ℕ → Bool) → some n f ≡ false → (v : ℕ) → 1 ≤ v → v ≤ n → f v ≡ false
+not-some n f e v l u = byBool (f v) (λ t. clash (is-some n v f l u t) e) (λ t. t)
+
 -- some passes just where not each fails
 pub some-every : (n : ℕ) (f : ℕ → Bool) → some n f ≡ not (every n (λ v. not (f v)))
 unfolding some every
@@ -132,3 +135,38 @@ pub every-done : (f : ℕ → Bool) (n v : ℕ) → v ≤ n → n ≤ v → ever
 every-done f n v a b h = let e : v ≡ n = omega arith in sym (rw e at h)
 
 pub ruleset every-loop = (every-start, every-turn, every-stop, every-turn-not, every-stop-not, every-done)
+
+-- the turns of a loop that looks for one of 1..n that passes: r is the test at v + 1
+pub some-start : (f : ℕ → Bool) → some 0 f ≡ false
+unfolding some
+some-start f = refl
+
+pub some-turn : (f : ℕ → Bool) (v : ℕ) (r : Bool) → some v f ≡ false → r ≡ f (v + 1) → r ≡ false → some (v + 1) f ≡ false
+unfolding some
+some-turn f v r h e t = let q : f (v + 1) ≡ false = sym e ∙ t in rw (add-one) (rw (← add-one, q, h))
+
+pub some-stop : (f : ℕ → Bool) (n v : ℕ) (r : Bool) → v < n → r ≡ f (v + 1) → r ≡ true → true ≡ some n f
+some-stop f n v r l e t = sym (is-some n (v + 1) f (omega arith) (omega arith) (sym e ∙ t))
+
+pub some-done : (f : ℕ → Bool) (n v : ℕ) → v ≤ n → n ≤ v → some v f ≡ false → false ≡ some n f
+some-done f n v a b h = let e : v ≡ n = omega arith in sym (rw e at h)
+
+pub ruleset some-loop = (some-start, some-turn, some-stop, some-done)
+
+-- the turns of a loop that looks for the lowest of 1..n that passes: r is the test at v + 1
+pub first-start : (f : ℕ → Bool) → first 0 f ≡ 0
+unfolding first
+first-start f = refl
+
+pub first-turn : (f : ℕ → Bool) (v : ℕ) (r : Bool) → first v f ≡ 0 → r ≡ f (v + 1) → r ≡ false → first (v + 1) f ≡ 0
+unfolding first
+first-turn f v r h e t = let q : f (v + 1) ≡ false = sym e ∙ t in rw (add-one) (rw (← add-one, q, is-same h))
+
+pub first-stop : (f : ℕ → Bool) (n v : ℕ) (r : Bool) → v < n → first v f ≡ 0 → r ≡ f (v + 1) → r ≡ true → v + 1 ≡ first n f
+first-stop f n v r l h e t =
+    sym (first-only n (v + 1) f (omega arith) (omega arith) (sym e ∙ t) (λ w a b. first-none v f h w a (omega arith)))
+
+pub first-done : (f : ℕ → Bool) (n v : ℕ) → v ≤ n → n ≤ v → first v f ≡ 0 → 0 ≡ first n f
+first-done f n v a b h = let e : v ≡ n = omega arith in sym (rw e at h)
+
+pub ruleset first-loop = (first-start, first-turn, first-stop, first-done)

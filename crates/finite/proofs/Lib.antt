@@ -5,3 +5,4 @@ pub mod Count
 pub mod Every
 pub mod Least
 pub mod Tables
+pub mod Refusals

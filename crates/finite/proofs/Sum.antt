@@ -2,7 +2,7 @@
 -- Assumes nothing.
 use mathlib.Core.Path.{_≡_, refl, sym, _∙_, ap}
 use mathlib.Core.Logic.{_≢_}
-use Prim.Native.Nat.{ℕ, zero, suc, _+_, _*_, _≤_, _<_}
+use Prim.Native.Nat.{ℕ, zero, suc, _+_, _-_, _*_, _≤_, _<_}
 use native.Mathlib.Nat.{mul-zero, mul-add}
 use native.Mathlib.Numerals.{add-one}
 use native.Mathlib.Omega.{arith}
@@ -111,3 +111,33 @@ sum-short zero a f l u h e = absurd (omega arith)
 sum-short (suc k) a f l u h e = byEq a (suc k)
     (λ q. let z : f (suc k) ≡ 0 = rw q at e in omega (arith, sum-bound k 1 f (λ v _ _. h v)))
     (λ q. omega (arith, sum-short k a f l (omega arith) h e, h (suc k)))
+
+-- the turns of a loop that adds up f 1 .. f n: q is f at v + 1
+pub sum-start : (f : ℕ → ℕ) → 0 ≡ sum 0 f
+sum-start f = sym (sum-zero-range f)
+
+pub sum-turn : (f : ℕ → ℕ) (v r q : ℕ) → r ≡ sum v f → q ≡ f (v + 1) → r + q ≡ sum (v + 1) f
+sum-turn f v r q e t = rw (e, t) (sym (sum-more v f))
+
+pub sum-done : (f : ℕ → ℕ) (n v r : ℕ) → v ≤ n → n ≤ v → r ≡ sum v f → r ≡ sum n f
+sum-done f n v r a b h = let e : v ≡ n = omega arith in rw e at h
+
+pub ruleset sum-loop = (sum-start, sum-turn, sum-done)
+
+-- and of one that adds up f n .. f 1: k is the whole sum, q is f at v
+pub down-start : (f : ℕ → ℕ) (n : ℕ) → 0 + sum n f ≡ sum n f
+down-start f n = omega arith
+
+down-more : (f : ℕ → ℕ) (v : ℕ) → 0 < v → sum v f ≡ sum (v - 1) f + f v
+down-more f v l = let e : v ≡ suc (v - 1) = omega arith in ap (λ (m : ℕ). sum m f) e ∙ sum-suc (v - 1) f ∙ ap (λ (m : ℕ). sum (v - 1) f + f m) (sym e)
+
+pub down-turn : (f : ℕ → ℕ) (v r q k : ℕ) → 0 < v → r + sum v f ≡ k → q ≡ f v → r + q + sum (v - 1) f ≡ k
+down-turn f v r q k l e t = omega (arith, down-more f v l)
+
+pub down-fits : (f : ℕ → ℕ) (v r q k : ℕ) → 0 < v → r + sum v f ≡ k → q ≡ f v → r + q ≤ k
+down-fits f v r q k l e t = omega (arith, down-more f v l)
+
+pub down-done : (f : ℕ → ℕ) (v r k : ℕ) → v ≤ 0 → r + sum v f ≡ k → r ≡ k
+down-done f v r k l e = let z : v ≡ 0 = omega arith in omega (arith, ap (λ (m : ℕ). sum m f) z, sum-zero-range f)
+
+pub ruleset down-loop = (down-start, down-turn, down-fits, down-done)

@@ -2,7 +2,7 @@
 -- counts are bounded for every switching; and a component with k reticulations has no more than 32 k trials.
 -- Assumes nothing.
 use mathlib.Core.Bool.{_&&_}
-use Prim.Native.Nat.{ℕ, zero, suc, _*_, _^_, _≤_, _<_}
+use Prim.Native.Nat.{ℕ, zero, suc, _+_, _*_, _^_, _≤_, _<_}
 use native.Mathlib.Omega.{arith}
 use Rattle.finite.specs.Tests.{same, tally}
 use Rattle.finite.specs.Range.{sum, count}
@@ -14,28 +14,41 @@ use Rattle.topology.specs.Networks.{Network, Sound, isReticulation, reticulatio
 use Rattle.topology.specs.Switchings.{Switching, allPrincipal}
 use Rattle.topology.specs.Components.{component, memberOf, members}
 use Rattle.reconciliation.specs.GeneTrees.{GeneTree, Rooted, Seated}
-use Rattle.reconciliation.specs.Mapping.{Costs, duplicationCount, transferCount, lossCount, lcaCost}
+use Rattle.reconciliation.specs.Costs.{Costs}
 use Rattle.reconciliation.specs.Limits.{Limits}
-use Rattle.reconciliation.proofs.Bounds.{duplications-few, transfers-few, losses-few, principal-cost}
+use Rattle.displayed.specs.Displays.{switched, display}
+use Rattle.displayed.specs.Model.{treeOf, duplicationCount, transferCount, lossCount, lcaCost}
+use Rattle.displayed.proofs.Bounds.{duplications-few, transfers-few, losses-few, plain-cost, base-forked, principal-plain}
+use Rattle.displayed.proofs.Model.{tree-is, tree-seated}
 use Rattle.optimum.specs.Optimum.{trialsOf, settings, trials, chosen, Optimal}
 use Rattle.optimum.proofs.Optimum.{chosen-optimal}
 
 -- the reported cost and counts are below 1,000,000
 module _ (N : Network) (ok : Sound N) (G : GeneTree) (t : Rooted G) (s : Seated N G) (C : Costs) (L : Limits N G C) where
+  -- the all-principal switching has no transfers
+  principal-cost : lcaCost N G C allPrincipal ≤ 99 * 63 + 99 * (126 * 64)
+  unfolding lcaCost display switched
+  principal-cost = plain-cost (treeOf N allPrincipal) (tree-is N ok allPrincipal) G t (tree-seated N ok allPrincipal G t s) (L .nodes) (L .genes)
+      C (L .duplication) (L .transfer) (L .loss) (base-forked N allPrincipal) (principal-plain N)
+
   pub optimal-small : (τ : Switching) → Optimal N G C τ → lcaCost N G C τ < 1000000
-  optimal-small τ o = omega (arith, o .least allPrincipal, principal-cost N ok G t s C L)
+  optimal-small τ o = omega (arith, o .least allPrincipal, principal-cost)
 
   pub chosen-small : lcaCost N G C (chosen N G C) < 1000000
   chosen-small = optimal-small (chosen N G C) (chosen-optimal N ok G t s C)
 
-  pub duplications-small : (σ : Switching) → duplicationCount N G σ < 1000000
-  duplications-small σ = omega (arith, duplications-few N ok G t s σ C L)
+  module _ (σ : Switching) where
+    pub duplications-small : duplicationCount N G σ < 1000000
+    unfolding duplicationCount display switched
+    duplications-small = omega (arith, duplications-few (treeOf N σ) (tree-is N ok σ) G t (tree-seated N ok σ G t s) (L .nodes) (L .genes))
 
-  pub transfers-small : (σ : Switching) → transferCount N G σ < 1000000
-  transfers-small σ = omega (arith, transfers-few N ok G t s σ C L)
+    pub transfers-small : transferCount N G σ < 1000000
+    unfolding transferCount display switched
+    transfers-small = omega (arith, transfers-few (treeOf N σ) (tree-is N ok σ) G t (tree-seated N ok σ G t s) (L .nodes) (L .genes))
 
-  pub losses-small : (σ : Switching) → lossCount N G σ < 1000000
-  losses-small σ = omega (arith, losses-few N ok G t s σ C L)
+    pub losses-small : lossCount N G σ < 1000000
+    unfolding lossCount display switched
+    losses-small = omega (arith, losses-few (treeOf N σ) (tree-is N ok σ) G t (tree-seated N ok σ G t s) (L .nodes) (L .genes) (base-forked N σ))
 
 -- 2^k for k from 1 to 8
 power-le : (k : ℕ) → 1 ≤ k → k ≤ 8 → 2 ^ k ≤ 32 * k

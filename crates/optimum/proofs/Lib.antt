@@ -1,4 +1,3 @@
-pub mod Charges
 pub mod Locality
 pub mod Separable
 pub mod Settings

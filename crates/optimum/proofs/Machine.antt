@@ -3,14 +3,10 @@
 -- Assumes nothing.
 use mathlib.Core.Path.{_≡_, refl, sym, _∙_, ap, fun-ext}
 use mathlib.Core.Logic.{_≢_, _↔_}
-use mathlib.Core.List.{List}
 use Prim.Native.Nat.{ℕ, zero, suc, _+_, _-_, _≤_, _<_, min}
 use native.Mathlib.Omega.{arith}
-use lib.ListN.{length, set}
-use lib.Seq.{getD-set-same, getD-set-other}
 use Rattle.finite.specs.Range.{sum}
 use Rattle.finite.specs.Least.{firstLeast}
-use Rattle.finite.specs.Tables.{at}
 use Rattle.finite.proofs.Cases.{byEq, byLess}
 use Rattle.finite.proofs.Tests.{is-same, not-same, is-under, not-under}
 use Rattle.finite.proofs.Sum.{sum-suc, sum-range-le, sum-zero-range}
@@ -27,11 +23,9 @@ pub put-out : (f : ℕ → ℕ) (c x d : ℕ) → d ≢ c → put f c x d ≡ f 
 unfolding put
 put-out f c x d n = rw (not-same n)
 
--- a table with an entry set, and with an entry left as it was
-pub put-table : (l : List ℕ) (c x : ℕ) → c < length l → at (set l c x) ≡ put (at l) c x
-put-table l c x u = fun-ext (λ d. byEq d c
-    (λ e. rw e (getD-set-same l c x 0 u ∙ sym (put-in (at l) c x)))
-    (λ n. getD-set-other l c d x 0 n ∙ sym (put-out (at l) c x d n)))
+-- bests with one set, told entry by entry, and with one left as it was
+pub put-is : (f g : ℕ → ℕ) (c x : ℕ) → g c ≡ x → ((d : ℕ) → d ≢ c → g d ≡ f d) → g ≡ put f c x
+put-is f g c x here there = fun-ext (λ d. byEq d c (λ e. rw e (here ∙ sym (put-in f c x))) (λ n. there d n ∙ sym (put-out f c x d n)))
 
 pub put-same : (f : ℕ → ℕ) (c : ℕ) → put f c (f c) ≡ f
 put-same f c = fun-ext (λ d. byEq d c (λ e. rw e (put-in f c (f c))) (λ n. put-out f c (f c) d n))

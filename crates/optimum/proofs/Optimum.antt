@@ -17,12 +17,11 @@ use Rattle.topology.specs.Components.{component, members, settingOf, Agree}
 use Rattle.topology.proofs.Above.{reticulation-node}
 use Rattle.topology.proofs.Components.{component-node}
 use Rattle.reconciliation.specs.GeneTrees.{GeneTree, Rooted, Seated}
-use Rattle.reconciliation.specs.Mapping.{Costs, lcaCost}
-use Rattle.optimum.specs.Charges.{charge}
+use Rattle.reconciliation.specs.Costs.{Costs}
+use Rattle.displayed.specs.Model.{lcaCost}
 use Rattle.optimum.specs.Separable.{Separable, only, joined, BestParts}
 use Rattle.optimum.specs.Optimum.{Least, Local, trial, bestSetting, assembled, chosen, Optimal}
-use Rattle.optimum.proofs.Charges.{cost-nodes}
-use Rattle.optimum.proofs.Locality.{charge-local}
+use Rattle.optimum.proofs.Locality.{charge, charged}
 use Rattle.optimum.proofs.Separable.{only-in, only-out, joined-least, joined-first, least-parts}
 use Rattle.optimum.proofs.Settings.{setting-onto, setting-order, setting-outside, order-anti}
 
@@ -133,10 +132,7 @@ least-one N cost τ ρ a b =
 -- the last-common-ancestor cost
 module _ (N : Network) (ok : Sound N) (G : GeneTree) (t : Rooted G) (s : Seated N G) (C : Costs) where
   pub lca-local : Local N (lcaCost N G C) (charge N G C)
-  lca-local = record {
-    sums = cost-nodes N ok G t s C;
-    near = λ σ τ v k a. charge-local N ok G σ τ v (omega arith) a C;
-  }
+  lca-local = charged N ok G t s C
 
   -- THE THEOREM: for every σ, the chosen switching costs no more, and where it costs the same it is not after σ
   pub chosen-optimal : Optimal N G C (chosen N G C)

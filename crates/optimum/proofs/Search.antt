@@ -1,15 +1,12 @@
--- The search over a network's components: the turns of its two loops on a table of bests and a count, and its last state, whose bests are each
+-- The search over a network's components: the turns of its two loops on the bests and a count, and its last state, whose bests are each
 -- component's first least setting. So what the table holds when no setting is left is the switching of demand 3.
 -- Assumes nothing.
 use mathlib.Core.Path.{_≡_, _∙_, ap, fun-ext}
-use mathlib.Core.List.{List}
 use Prim.Native.Nat.{ℕ, zero, suc, _+_, _≤_, _<_}
 use native.Mathlib.Numerals.{add-one}
 use native.Mathlib.Omega.{arith}
-use lib.ListN.{length, set}
 use Rattle.finite.specs.Range.{sum}
 use Rattle.finite.specs.Least.{firstLeast}
-use Rattle.finite.specs.Tables.{at}
 use Rattle.finite.proofs.Cases.{byEq}
 use Rattle.finite.proofs.Tests.{is-same, not-same}
 use Rattle.finite.proofs.Sum.{sum-more}
@@ -20,27 +17,28 @@ use Rattle.topology.specs.Components.{component, members, settingOf}
 use Rattle.topology.proofs.Above.{reticulation-node}
 use Rattle.topology.proofs.Components.{component-node}
 use Rattle.reconciliation.specs.GeneTrees.{GeneTree, Rooted, Seated}
-use Rattle.reconciliation.specs.Mapping.{Costs, lcaCost}
+use Rattle.reconciliation.specs.Costs.{Costs}
+use Rattle.displayed.specs.Model.{lcaCost}
 use Rattle.optimum.specs.Optimum.{Least, Local, trial, bestSetting, assembled, trialsOf, settings, trials, trialCost, best, chosen, Optimal}
-use Rattle.optimum.specs.Machine.{State, start, scored, after, scoredOf, searchAfter, AsScored, stateOf}
+use Rattle.optimum.specs.Machine.{State, put, start, scored, after, scoredOf, searchAfter, AsScored, stateOf}
 use Rattle.optimum.proofs.Optimum.{assembled-least, least-agree, optimal-agree}
-use Rattle.optimum.proofs.Machine.{put-table, put-same, lesser-take, lesser-keep, after-count, after-turn, after-bests, last-bests, step-none}
+use Rattle.optimum.proofs.Machine.{put-same, lesser-take, lesser-keep, after-count, after-turn, after-bests, last-bests, step-none}
 
--- one step on a table of bests and a count: setting x of component c costs a, the best so far costs b
-module _ (trial : ℕ → ℕ → ℕ) (l : List ℕ) (t c x a b : ℕ) where
-  pub score-take : length l ≡ 128 → c ≤ 127 → a ≡ trial c x → b ≡ trial c (at l c) → a < b → stateOf (set l c x) (t + 1) ≡ scored trial c x (stateOf l t)
+-- one step on the bests and a count: setting x of component c costs a, the best so far costs b
+module _ (trial : ℕ → ℕ → ℕ) (f : ℕ → ℕ) (t c x a b : ℕ) where
+  pub score-take : a ≡ trial c x → b ≡ trial c (f c) → a < b → stateOf (put f c x) (t + 1) ≡ scored trial c x (stateOf f t)
   unfolding stateOf scored
-  score-take n u e q less = rw (put-table l c x (omega arith), lesser-take (trial c) (at l c) x (omega arith), add-one t)
+  score-take e q less = rw (lesser-take (trial c) (f c) x (omega arith), add-one t)
 
-  pub score-keep : a ≡ trial c x → b ≡ trial c (at l c) → b ≤ a → stateOf l (t + 1) ≡ scored trial c x (stateOf l t)
+  pub score-keep : a ≡ trial c x → b ≡ trial c (f c) → b ≤ a → stateOf f (t + 1) ≡ scored trial c x (stateOf f t)
   unfolding stateOf scored
-  score-keep e q more = rw (lesser-keep (trial c) (at l c) x (omega arith), put-same (at l) c, add-one t)
+  score-keep e q more = rw (lesser-keep (trial c) (f c) x (omega arith), put-same f c, add-one t)
 
 -- the turns of a loop over the components k + 1 and, in it, a loop over their m settings x; s is the state now, r the state after the step
 module _ (n : ℕ) (settings : ℕ → ℕ) (trial : ℕ → ℕ → ℕ) where
-  pub search-start : (l : List ℕ) → ((v : ℕ) → at l v ≡ 0) → stateOf l 0 ≡ after n settings trial (sum 0 settings + 0)
+  pub search-start : (f : ℕ → ℕ) → ((v : ℕ) → f v ≡ 0) → stateOf f 0 ≡ after n settings trial (sum 0 settings + 0)
   unfolding stateOf after start sum
-  search-start l z = rw (fun-ext z)
+  search-start f z = rw (fun-ext z)
 
   pub search-turn : (s r : State) (k m x : ℕ) → s ≡ after n settings trial (sum k settings + x) → m ≡ settings (k + 1) → k < n → x < m
       → r ≡ scored trial (k + 1) x s → r ≡ after n settings trial (sum k settings + (x + 1))
@@ -61,9 +59,9 @@ module _ (n : ℕ) (settings : ℕ → ℕ) (trial : ℕ → ℕ → ℕ) where
       rw e at h
 
   -- the count is the number of settings scored
-  pub search-counted : (l : List ℕ) (t p : ℕ) → stateOf l t ≡ after n settings trial p → p ≤ sum n settings → t ≡ p
+  pub search-counted : (f : ℕ → ℕ) (t p : ℕ) → stateOf f t ≡ after n settings trial p → p ≤ sum n settings → t ≡ p
   unfolding stateOf
-  search-counted l t p h u = ap (λ (s : State). s .count) h ∙ after-count n settings trial p u
+  search-counted f t p h u = ap (λ (s : State). s .count) h ∙ after-count n settings trial p u
 
 pub ruleset search-loop = (score-take, score-keep, search-start, search-turn, search-next, search-done)
 
@@ -125,22 +123,22 @@ pub search-end : (N : Network) (G : GeneTree) (C : Costs) (s : State) (k : ℕ)
 unfolding trials
 search-end N G C s k = search-done (N .size) (settings N) (trialCost N G C) s k
 
--- what a table and a count that hold the last state say
-module _ (N : Network) (ok : Sound N) (G : GeneTree) (C : Costs) (l : List ℕ) (t : ℕ) (h : stateOf l t ≡ searchAfter N G C (trials N)) where
+-- what bests and a count that are the last state say
+module _ (N : Network) (ok : Sound N) (G : GeneTree) (C : Costs) (l : ℕ → ℕ) (t : ℕ) (h : stateOf l t ≡ searchAfter N G C (trials N)) where
   pub last-count : t ≡ trials N
   unfolding stateOf
   last-count = ap (λ (s : State). s .count) h ∙ search-count N ok (lcaCost N G C)
 
-  last-table : at l ≡ searchAfter N G C (trials N) .bests
+  last-table : l ≡ searchAfter N G C (trials N) .bests
   unfolding stateOf
   last-table = ap (λ (s : State). s .bests) h
 
-  pub last-best : (c : ℕ) → 1 ≤ c → c ≤ N .size → at l c ≡ best N G C c
+  pub last-best : (c : ℕ) → 1 ≤ c → c ≤ N .size → l c ≡ best N G C c
   last-best c a b = ap (λ (f : ℕ → ℕ). f c) last-table ∙ search-bests N ok (lcaCost N G C) c a b
 
-  pub last-chosen : (r : ℕ) → Reticulation N r → assembled N (at l) r ≡ chosen N G C r
+  pub last-chosen : (r : ℕ) → Reticulation N r → assembled N (l) r ≡ chosen N G C r
   last-chosen r d = ap (λ (f : ℕ → ℕ). assembled N f r) last-table ∙ search-agree N ok (lcaCost N G C) r d
 
   -- the switching reported is the theorem's
-  pub last-optimal : Rooted G → Seated N G → Optimal N G C (assembled N (at l))
-  last-optimal g s = optimal-agree N ok G g s C (assembled N (at l)) last-chosen
+  pub last-optimal : Rooted G → Seated N G → Optimal N G C (assembled N (l))
+  last-optimal g s = optimal-agree N ok G g s C (assembled N (l)) last-chosen

@@ -1,4 +1,3 @@
-pub mod Charges
 pub mod Separable
 pub mod Optimum
 pub mod Machine

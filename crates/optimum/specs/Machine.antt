@@ -3,15 +3,13 @@
 -- Assumes nothing.
 use mathlib.Core.Path.{_≡_}
 use mathlib.Core.Bool.{cond}
-use mathlib.Core.List.{List}
 use Prim.Native.Nat.{ℕ, zero, suc, _-_, min, _≤_}
 use Rattle.finite.specs.Tests.{same, under}
 use Rattle.finite.specs.Range.{sum, first}
 use Rattle.finite.specs.Least.{firstLeast}
-use Rattle.finite.specs.Tables.{at}
 use Rattle.topology.specs.Networks.{Network}
 use Rattle.reconciliation.specs.GeneTrees.{GeneTree}
-use Rattle.reconciliation.specs.Mapping.{Costs}
+use Rattle.reconciliation.specs.Costs.{Costs}
 use Rattle.optimum.specs.Optimum.{settings, trialCost}
 
 -- "the best setting so far of each component .. and the count of trials"
@@ -66,6 +64,6 @@ pub record AsScored (N : Network) (G : GeneTree) (C : Costs) (t : ℕ) (s : Stat
   pub count : s .count ≡ t
   pub bests : (c : ℕ) → 1 ≤ c → c ≤ N .size → s .bests c ≡ firstLeast (trialCost N G C c) (scoredOf (settings N) c t)
 
--- the state that a table of the bests by top and a number hold
-unfoldable pub stateOf : List ℕ → ℕ → State
-stateOf bests count = record { bests = at bests; count = count }
+-- the state of these bests, by top, and this count
+unfoldable pub stateOf : (ℕ → ℕ) → ℕ → State
+stateOf bests count = record { bests = bests; count = count }

@@ -11,7 +11,8 @@ use Rattle.topology.specs.Networks.{Network, Node, Reticulation}
 use Rattle.topology.specs.Switchings.{Switching, NotAfter}
 use Rattle.topology.specs.Components.{component, members, settingOf, Agree}
 use Rattle.reconciliation.specs.GeneTrees.{GeneTree}
-use Rattle.reconciliation.specs.Mapping.{Costs, lcaCost}
+use Rattle.reconciliation.specs.Costs.{Costs}
+use Rattle.displayed.specs.Model.{lcaCost}
 
 -- τ costs no more than any switching of the whole network, and where another costs as little, τ comes first in 01's order
 pub record Least (N : Network) (cost : Switching → ℕ) (τ : Switching) : Type 0 where

@@ -1,5 +1,2 @@
-pub mod Places
-pub mod Ways
-pub mod Events
+pub mod Genes
 pub mod Agreement
-pub mod Bounds

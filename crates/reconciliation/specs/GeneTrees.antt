@@ -2,7 +2,8 @@
 -- Assumes nothing.
 use mathlib.Core.Path.{_≡_}
 use mathlib.Core.Logic.{_≢_, _⊎_}
-use Prim.Native.Nat.{ℕ, _≤_, _<_}
+use Prim.Native.Nat.{ℕ, _+_, _≤_, _<_}
+use Rattle.finite.specs.Range.{children}
 use Rattle.topology.specs.Networks.{Network, Node}
 
 -- the genes are 1..count; a gene's two children, 0 for a leaf gene; the node at which a leaf gene sits; a gene's parent, 0 for gene 1
@@ -30,6 +31,10 @@ pub record Rooted (G : GeneTree) : Type 0 where
   pub parent-inner : (g : ℕ) → G .parent g ≢ 0 → G .left (G .parent g) ≢ 0
   pub is-child : (g : ℕ) → G .parent g ≢ 0 → (G .left (G .parent g) ≡ g) ⊎ (G .right (G .parent g) ≡ g)
 
--- "a leaf gene sits at its species' leaf" (01, "Settings and placement"), which refusal 13 makes a node
+-- what refusals 8, 9 and 13 of 01 leave for the mapping: "a leaf gene sits at its species' leaf" ("Settings and placement"), a node that no arc leaves, and
+-- no more than two arcs leave a node
 pub record Seated (N : Network) (G : GeneTree) : Type 0 where
   pub seat : (g : ℕ) → 1 ≤ g → g ≤ G .count → G .left g ≡ 0 → Node N (G .leaf g)
+  pub no-principal : (g : ℕ) → 1 ≤ g → g ≤ G .count → G .left g ≡ 0 → children (N .size) (N .principal) (G .leaf g) ≡ 0
+  pub no-secondary : (g : ℕ) → 1 ≤ g → g ≤ G .count → G .left g ≡ 0 → children (N .size) (N .secondary) (G .leaf g) ≡ 0
+  pub few : (v : ℕ) → Node N v → children (N .size) (N .principal) v + children (N .size) (N .secondary) v ≤ 2

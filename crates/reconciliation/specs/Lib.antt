@@ -1,3 +1,3 @@
 pub mod GeneTrees
-pub mod Mapping
+pub mod Costs
 pub mod Limits

@@ -3,7 +3,7 @@
 use Prim.Native.Nat.{_≤_}
 use Rattle.topology.specs.Networks.{Network}
 use Rattle.reconciliation.specs.GeneTrees.{GeneTree}
-use Rattle.reconciliation.specs.Mapping.{Costs}
+use Rattle.reconciliation.specs.Costs.{Costs}
 
 pub record Limits (N : Network) (G : GeneTree) (C : Costs) : Type 0 where
   pub nodes : N .size ≤ 127

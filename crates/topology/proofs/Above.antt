@@ -3,7 +3,7 @@
 -- Assumes nothing.
 use mathlib.Core.Path.{_≡_, refl, sym, _∙_}
 use mathlib.Core.Logic.{_≢_}
-use mathlib.Core.Bool.{true, false, _&&_, and-false}
+use mathlib.Core.Bool.{true, false, _&&_, and-true, and-false}
 use Prim.Native.Nat.{ℕ, suc, _<_}
 use native.Mathlib.Omega.{arith}
 use Rattle.finite.proofs.Cases.{byBool, byEq, byOrder, clash}
@@ -16,7 +16,7 @@ use Rattle.topology.proofs.Climbing.{climb-ind, over-self, over-up, ove
 module _ (N : Network) where
   open Network N using (size, principal, secondary, rank)
 
-  parent-principal : (x : ℕ) → parent N allPrincipal x ≡ principal x
+  pub parent-principal : (x : ℕ) → parent N allPrincipal x ≡ principal x
   unfolding parent onSecondary isReticulation
   parent-principal x = refl
 
@@ -46,6 +46,11 @@ reticulation-is N r e q = clash (rw (is-same q) at e) refl
 pub is-reticulation : (N : Network) (r : ℕ) → Reticulation N r → isReticulation N r ≡ true
 unfolding isReticulation
 is-reticulation N r d = rw (not-same d)
+
+-- at a reticulation the switching says whether the secondary arc is on
+pub on-reticulation : (N : Network) (σ : Switching) (r : ℕ) → Reticulation N r → onSecondary N σ r ≡ σ r
+unfolding onSecondary
+on-reticulation N σ r d = rw (is-reticulation N r d, and-true (σ r))
 
 height-zero : (N : Network) → height N 0 ≡ 0
 unfolding height

@@ -40,6 +40,11 @@ module _ (h up : ℕ → ℕ) (F : Falls h up) where
         fuel (h x) (suc (h x)) x (omega arith) (omega arith)
         ∙ ap (λ (r : ℕ). cond (stop x) x r) (fuel (h x) (h (up x)) (up x) (omega arith) (omega arith)))
 
+    -- from 0 there is nowhere to climb
+    pub seek-none : seek h stop up 0 ≡ 0
+    unfolding seek
+    seek-none = seek-zero (h 0)
+
 module _ (h up : ℕ → ℕ) (F : Falls h up) where
   pub over-eq : (v x : ℕ) → over h up v x ≡ (same v x || over h up v (up x))
   unfolding over

@@ -3,3 +3,4 @@ pub mod Networks
 pub mod Switchings
 pub mod Components
 pub mod Tables
+pub mod Lines

@@ -1,0 +1,16 @@
+pub mod Trees
+pub mod Places
+pub mod Ways
+pub mod Events
+pub mod Nodes
+pub mod Locality
+pub mod Displays
+pub mod Departures
+pub mod Forks
+pub mod Children
+pub mod Gathering
+pub mod Meeting
+pub mod Same
+pub mod Tabled
+pub mod Bounds
+pub mod Model

@@ -1,0 +1,80 @@
+-- What the verdict of a list of refusals tells: the first whose condition holds, or that none does. Each refusal's test tells its condition, so that the
+-- walk along the tests is the walk along the conditions.
+-- Assumes nothing.
+use Prim.Native.Nat.{ℕ}
+use mathlib.Core.Path.{_≡_, refl, sym, _∙_}
+use mathlib.Core.Logic.{_≢_}
+use mathlib.Core.Bool.{Bool, true, false}
+use mathlib.Core.List.{List, [], _∷_, _++_}
+use Rattle.finite.specs.Refusals.{Refusal, verdict, First, here, later, NoneApplies, end, passed, Tells, AllTell, no-more, one-more}
+use Rattle.finite.proofs.Cases.{byBool, byEq, clash}
+
+module _ (r : Refusal) (rs : List Refusal) where
+  pub verdict-here : r .test ≡ true → verdict (r ∷ rs) ≡ r .number
+  unfolding verdict
+  verdict-here t = rw t
+
+  pub verdict-later : r .test ≡ false → verdict (r ∷ rs) ≡ verdict rs
+  unfolding verdict
+  verdict-later t = rw t
+
+-- `byBool` one universe up: a list of refusals holds types
+byTest : {A : Type 1} (b : Bool) → (b ≡ true → A) → (b ≡ false → A) → A
+byTest true y n = y refl
+byTest false y n = n refl
+
+denied : {r : Refusal} → Tells r → r .test ≡ false → ¬ (r .condition)
+denied t f c = clash (t .refused c) f
+
+untold : {r : Refusal} → Tells r → ¬ (r .condition) → r .test ≡ false
+untold {r} t n = byBool (r .test) (λ y. absurd (n (t .yes y))) (λ f. f)
+
+-- a verdict that is a number is the first refusal that applies; else none does
+pub told-first : (rs : List Refusal) → AllTell rs → (k : ℕ) → k ≢ 0 → verdict rs ≡ k → First rs k
+unfolding verdict
+told-first [] no-more k d e = absurd (d (sym e))
+told-first (r ∷ rs) (one-more t ts) k d e = byTest (r .test)
+    (λ y. here (t .yes y) (sym (verdict-here r rs y) ∙ e))
+    (λ f. later (denied t f) (told-first rs (ts f) k d (sym (verdict-later r rs f) ∙ e)))
+
+pub told-none : (rs : List Refusal) → AllTell rs → verdict rs ≡ 0 → NoneApplies rs
+unfolding verdict
+told-none [] no-more e = end
+told-none (r ∷ rs) (one-more t ts) e = byTest (r .test)
+    (λ y. absurd (t .some (sym (verdict-here r rs y) ∙ e)))
+    (λ f. passed (denied t f) (told-none rs (ts f) (sym (verdict-later r rs f) ∙ e)))
+
+pub first-told : (rs : List Refusal) → AllTell rs → (k : ℕ) → First rs k → verdict rs ≡ k
+first-told (r ∷ rs) (one-more t ts) k (here c e) = verdict-here r rs (t .refused c) ∙ e
+first-told (r ∷ rs) (one-more t ts) k (later n f) = verdict-later r rs (untold t n) ∙ first-told rs (ts (untold t n)) k f
+
+pub none-told : (rs : List Refusal) → AllTell rs → NoneApplies rs → verdict rs ≡ 0
+unfolding verdict
+none-told [] no-more end = refl
+none-told (r ∷ rs) (one-more t ts) (passed n f) = verdict-later r rs (untold t n) ∙ none-told rs (ts (untold t n)) f
+
+-- the verdict of two lists, one after the other: the first's, or, where none of it applies, the second's
+pub verdict-first : (rs ss : List Refusal) → AllTell rs → (k : ℕ) → k ≢ 0 → verdict rs ≡ k → verdict (rs ++ ss) ≡ k
+unfolding verdict
+verdict-first [] ss no-more k d e = absurd (d (sym e))
+verdict-first (r ∷ rs) ss (one-more t ts) k d e = byBool (r .test)
+    (λ y. verdict-here r (rs ++ ss) y ∙ sym (verdict-here r rs y) ∙ e)
+    (λ f. verdict-later r (rs ++ ss) f ∙ verdict-first rs ss (ts f) k d (sym (verdict-later r rs f) ∙ e))
+
+pub verdict-second : (rs ss : List Refusal) → AllTell rs → verdict rs ≡ 0 → verdict (rs ++ ss) ≡ verdict ss
+unfolding verdict
+verdict-second [] ss no-more e = refl
+verdict-second (r ∷ rs) ss (one-more t ts) e = byBool (r .test)
+    (λ y. absurd (t .some (sym (verdict-here r rs y) ∙ e)))
+    (λ f. verdict-later r (rs ++ ss) f ∙ verdict-second rs ss (ts f) (sym (verdict-later r rs f) ∙ e))
+
+-- where none of two lists applies, none of either does
+pub both-none : (rs ss : List Refusal) → AllTell rs → verdict (rs ++ ss) ≡ 0 → (verdict rs ≡ 0) × (verdict ss ≡ 0)
+both-none rs ss t e = byEq (verdict rs) 0
+    (λ z. (z, sym (verdict-second rs ss t z) ∙ e))
+    (λ d. absurd (d (sym (verdict-first rs ss t (verdict rs) d refl) ∙ e)))
+
+pub all-tell : (rs ss : List Refusal) → AllTell rs → (verdict rs ≡ 0 → AllTell ss) → AllTell (rs ++ ss)
+unfolding verdict
+all-tell [] ss no-more u = u refl
+all-tell (r ∷ rs) ss (one-more t ts) u = one-more t (λ f. all-tell rs ss (ts f) (λ e. u (verdict-later r rs f ∙ e)))
