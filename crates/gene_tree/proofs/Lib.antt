@@ -1,4 +1,4 @@
-pub mod Finding
-pub mod Tables
 pub mod Refusals
 pub mod Genes
+pub mod Reading
+pub mod Filling

@@ -1,158 +1,171 @@
--- The tests of refusals 12 and 13 say what 01 says: a test over all genes that fails fails at some gene, and there one of its parts.
+-- The tests of refusals 12 and 13 say what 01 says: a test over the genes that passes passes at some gene, and there one of its clauses applies; where it
+-- fails, each gene is free of all clauses.
 -- Assumes nothing.
 use mathlib.Core.Path.{_≡_, refl}
 use mathlib.Core.Logic.{_≢_}
-use mathlib.Core.Bool.{true, false, _&&_, _||_, not}
-use mathlib.Core.List.{List}
+use mathlib.Core.Bool.{true, false, _||_, not}
 use Prim.Native.Nat.{ℕ, _≤_, _<_}
 use native.Mathlib.Omega.{arith}
 use Rattle.finite.specs.Tests.{same, under}
-use Rattle.finite.specs.Tables.{at}
+use Rattle.finite.specs.Refusals.{verdict, AllTell, no-more, one-more}
 use Rattle.finite.proofs.Cases.{byBool, byEq}
-use Rattle.finite.proofs.Tests.{is-same, same-is, not-same, same-not, is-under, under-is, under-not, and-l, and-r, or-r, or-no-l, or-no-r, not-true, not-false}
-use Rattle.finite.proofs.Every.{every-at, not-every}
+use Rattle.finite.proofs.Tests.{is-same, same-is, not-same, same-not, under-is, under-not, or-r, or-no-l, or-no-r, not-true, not-false}
+use Rattle.finite.proofs.Every.{some-at, not-some}
+use Rattle.finite.proofs.Refusals.{verdict-here, verdict-later}
 use Rattle.tables.proofs.Nexts.{next-is, next-none}
-use Rattle.gene_tree.specs.Refusals.{childCount, parentFits, childrenFit, geneFits, treeFits, NoTree, bearer, speciesFits, seatFits, seatsFit, NoSeat, geneVerdict}
-use Rattle.gene_tree.specs.Refusals.NoTree.{first-has-parent, no-parent, parent-not-below, children-amiss}
-use Rattle.gene_tree.specs.Refusals.NoSeat.{leaf-without-species, leaf-unknown, inner-with-species}
+use Rattle.topology.specs.Lines.{NodeLines, GeneLines}
+use Rattle.gene_tree.specs.Refusals.{Gene, childCount, badParent, badCount, badGeneAt, refusal12, Refusal12, bearer, badSpecies, badSpeciesAt, refusal13, Refusal13, speciesRefusals, geneRefusals}
+use Rattle.gene_tree.specs.Refusals.Refusal12.{first-has-parent, no-parent, parent-not-below, children-amiss}
+use Rattle.gene_tree.specs.Refusals.Refusal13.{leaf-without-species, leaf-unknown, inner-with-species}
 
--- 12
-module _ (m : ℕ) (parent : List ℕ) where
-  -- what a gene that passes says
-  fit-parent : (g : ℕ) → geneFits m parent g ≡ true → parentFits g (at parent g) ≡ true
-  unfolding geneFits
-  fit-parent g t = and-l (parentFits g (at parent g)) (childrenFit (childCount m parent g)) t
+-- 12: where it does not apply, a gene's parent and its number of children are as a tree has them
+module _ {K : GeneLines} (t : refusal12 K ≡ false) (g : ℕ) (k : Gene K g) where
+  gene-passes : badGeneAt K g ≡ false
+  unfolding refusal12
+  gene-passes = not-some (K .count) (badGeneAt K) t g (k .low) (k .high)
 
-  pub gene-first : geneFits m parent 1 ≡ true → at parent 1 ≡ 0
-  unfolding parentFits
-  gene-first t = let q : same (at parent 1) 0 ≡ true = rw (is-same {m = 1} refl) at (fit-parent 1 t) in same-is _ _ q
+  parent-passes : badParent g (K .parent g) ≡ false
+  unfolding badGeneAt
+  parent-passes = or-no-l (badParent g (K .parent g)) (badCount (childCount K g)) gene-passes
 
-  fit-other : (g : ℕ) → geneFits m parent g ≡ true → g ≢ 1 → (under 0 (at parent g) && under (at parent g) g) ≡ true
-  unfolding parentFits
-  fit-other g t d = rw (not-same d) at (fit-parent g t)
+  pub gene-first : g ≡ 1 → K .parent g ≡ 0
+  unfolding badParent
+  gene-first e = let q : not (same (K .parent g) 0) ≡ false = rw (is-same e) at parent-passes in same-is _ _ (not-false _ q)
 
-  pub gene-some : (g : ℕ) → geneFits m parent g ≡ true → g ≢ 1 → 0 < at parent g
-  gene-some g t d = under-is _ _ (and-l (under 0 (at parent g)) (under (at parent g) g) (fit-other g t d))
+  other-passes : g ≢ 1 → (same (K .parent g) 0 || not (under (K .parent g) g)) ≡ false
+  unfolding badParent
+  other-passes d = rw (not-same d) at parent-passes
 
-  pub gene-below : (g : ℕ) → geneFits m parent g ≡ true → g ≢ 1 → at parent g < g
-  gene-below g t d = under-is _ _ (and-r (under 0 (at parent g)) (under (at parent g) g) (fit-other g t d))
+  pub gene-some : g ≢ 1 → K .parent g ≢ 0
+  gene-some d = same-not _ _ (or-no-l (same (K .parent g) 0) (not (under (K .parent g) g)) (other-passes d))
 
-  pub gene-two : (g : ℕ) → geneFits m parent g ≡ true → childCount m parent g ≢ 0 → childCount m parent g ≡ 2
-  unfolding geneFits childrenFit
-  gene-two g t d =
-      let k = childCount m parent g in
-      same-is _ _ (or-r (same k 0) (same k 2) (and-r (parentFits g (at parent g)) (same k 0 || same k 2) t) (not-same d))
+  pub gene-below : g ≢ 1 → K .parent g < g
+  gene-below d = under-is _ _ (not-false _ (or-no-r (same (K .parent g) 0) (not (under (K .parent g) g)) (other-passes d)))
 
-  -- the test fails just where a clause applies
-  children-bad : (g : ℕ) → 1 ≤ g → g ≤ m → childrenFit (childCount m parent g) ≡ false → NoTree m parent
-  unfolding childrenFit
-  children-bad g l u q =
-      let k = childCount m parent g in
-      children-amiss g l u (same-not _ _ (or-no-l (same k 0) (same k 2) q)) (same-not _ _ (or-no-r (same k 0) (same k 2) q))
+  pub gene-two : childCount K g ≢ 0 → childCount K g ≡ 2
+  unfolding badGeneAt badCount
+  gene-two d =
+      let c = childCount K g in
+      same-is _ _ (or-r (same c 0) (same c 2) (not-false _ (or-no-r (badParent g (K .parent g)) (not (same c 0 || same c 2)) gene-passes)) (not-same d))
 
-  parent-bad : (g : ℕ) → 1 ≤ g → g ≤ m → parentFits g (at parent g) ≡ false → NoTree m parent
-  unfolding parentFits
-  parent-bad g l u p = byEq g 1
-      (λ e. let q : same (at parent g) 0 ≡ false = rw (is-same e) at p in
-      let z : at parent 1 ≢ 0 = rw e at (same-not _ _ q) in first-has-parent (omega arith) z)
-      (λ d. byEq (at parent g) 0 (λ e. no-parent g l u d e)
-      (λ z. let q : under (at parent g) g ≡ false = rw (not-same d, is-under {m = 0} {n = at parent g} (omega arith)) at p in
-      parent-not-below g l u d (under-not _ _ q)))
+module _ (K : GeneLines) where
+  parent-told : (g : ℕ) → Gene K g → badParent g (K .parent g) ≡ true → Refusal12 K
+  unfolding badParent
+  parent-told g k h = byEq g 1
+      (λ e. let q : not (same (K .parent g) 0) ≡ true = rw (is-same e) at h in
+      first-has-parent (rw e at k) (rw e at (same-not _ _ (not-true _ q))))
+      (λ d. let q : (same (K .parent g) 0 || not (under (K .parent g) g)) ≡ true = rw (not-same d) at h in
+      byEq (K .parent g) 0 (λ e. no-parent g k d e) (λ z. parent-not-below g k d (under-not _ _ (not-true _ (or-r (same (K .parent g) 0) _ q (not-same z))))))
 
-  amiss : (g : ℕ) → 1 ≤ g → g ≤ m → geneFits m parent g ≡ false → NoTree m parent
-  unfolding geneFits
-  amiss g l u t = byBool (parentFits g (at parent g)) (λ p. children-bad g l u (rw p at t)) (λ p. parent-bad g l u p)
+  count-told : (g : ℕ) → Gene K g → badCount (childCount K g) ≡ true → Refusal12 K
+  unfolding badCount
+  count-told g k h =
+      let c = childCount K g in
+      let q = not-true (same c 0 || same c 2) h in
+      children-amiss g k (same-not _ _ (or-no-l (same c 0) (same c 2) q)) (same-not _ _ (or-no-r (same c 0) (same c 2) q))
 
-  pub no-tree : treeFits m parent ≡ false → NoTree m parent
-  unfolding treeFits
-  no-tree t = let r = not-every m (geneFits m parent) t in amiss (r .0) (r .1) (r .2) (r .3)
+  gene-told : (g : ℕ) → Gene K g → badGeneAt K g ≡ true → Refusal12 K
+  unfolding badGeneAt
+  gene-told g k h = byBool (badParent g (K .parent g)) (λ p. parent-told g k p) (λ p. count-told g k (or-r (badParent g (K .parent g)) (badCount (childCount K g)) h p))
 
-  pub tree-gene : treeFits m parent ≡ true → (g : ℕ) → 1 ≤ g → g ≤ m → geneFits m parent g ≡ true
-  unfolding treeFits
-  tree-gene t g l u = every-at m (geneFits m parent) t g l u
+  from-12 : refusal12 K ≡ true → Refusal12 K
+  unfolding refusal12
+  from-12 h = let r = some-at (K .count) (badGeneAt K) h in gene-told (r .0) (record { low = r .1; high = r .2 }) (r .3)
 
-  pub tree-fits : treeFits m parent ≡ true → NoTree m parent → ⊥
-  tree-fits t (first-has-parent l d) = d (gene-first (tree-gene t 1 (omega arith) l))
-  tree-fits t (no-parent g l u d e) = omega (arith, gene-some g (tree-gene t g l u) d)
-  tree-fits t (parent-not-below g l u d k) = omega (arith, gene-below g (tree-gene t g l u) d)
-  tree-fits t (children-amiss g l u d k) = k (gene-two g (tree-gene t g l u) d)
+  denied-12 : refusal12 K ≡ false → Refusal12 K → ⊥
+  denied-12 t (first-has-parent k d) = d (gene-first t 1 k refl)
+  denied-12 t (no-parent g k d e) = gene-some t g k d e
+  denied-12 t (parent-not-below g k d l) = omega (arith, gene-below t g k d)
+  denied-12 t (children-amiss g k d e) = e (gene-two t g k d)
 
--- a species has a bearer just where it is one and some node of the range bears it
-pub bearer-in : (n : ℕ) (borne : List ℕ) (s : ℕ) → bearer n borne s ≢ 0 → (bearer n borne s ≤ n) × (at borne (bearer n borne s) ≡ s)
-unfolding bearer
-bearer-in n borne s d = byEq s 0 (λ e. absurd (d (rw (is-same e)))) (λ z. rw (not-same z) (let r = next-is n borne 0 s (rw (not-same z) at d) in (r .0, r .2)))
+  to-12 : Refusal12 K → refusal12 K ≡ true
+  to-12 x = byBool (refusal12 K) (λ t. t) (λ t. absurd (denied-12 t x))
 
-bearer-zero : (n : ℕ) (borne : List ℕ) (s : ℕ) → s ≡ 0 → bearer n borne s ≡ 0
-unfolding bearer
-bearer-zero n borne s e = rw (is-same e)
+-- a species has a bearer just where it is one and some node bears it
+module _ (L : NodeLines) (s : ℕ) where
+  pub bearer-zero : s ≡ 0 → bearer L s ≡ 0
+  unfolding bearer
+  bearer-zero e = rw (is-same e)
 
-bearer-none : (n : ℕ) (borne : List ℕ) (s : ℕ) → s ≢ 0 → bearer n borne s ≡ 0 → (v : ℕ) → 1 ≤ v → v ≤ n → at borne v ≢ s
-unfolding bearer
-bearer-none n borne s z e v l u = next-none n borne 0 s (rw (not-same z) at e) v l u
+  pub bearer-some : bearer L s ≢ 0 → s ≢ 0
+  bearer-some d e = d (bearer-zero e)
 
--- 13
-module _ (n m : ℕ) (parent species borne : List ℕ) where
-  seat-gene : seatsFit n m parent species borne ≡ true → (g : ℕ) → 1 ≤ g → g ≤ m → seatFits n m parent species borne g ≡ true
-  unfolding seatsFit
-  seat-gene t g l u = every-at m (seatFits n m parent species borne) t g l u
+  pub bearer-in : bearer L s ≢ 0 → (bearer L s ≤ L .size) × (L .species (bearer L s) ≡ s)
+  unfolding bearer
+  bearer-in d = byEq s 0 (λ e. absurd (bearer-some d e)) (λ z. rw (not-same z) (let r = next-is (L .size) (L .species) 0 s (rw (not-same z) at d) in (r .0, r .2)))
 
-  pub seat-leaf : seatsFit n m parent species borne ≡ true → (g : ℕ) → 1 ≤ g → g ≤ m → childCount m parent g ≡ 0 → bearer n borne (at species g) ≢ 0
-  unfolding seatFits speciesFits
-  seat-leaf t g l u k =
-      let q : not (same (bearer n borne (at species g)) 0) ≡ true = rw (is-same k) at (seat-gene t g l u) in
-      same-not _ _ (not-true _ q)
+  bearer-none : s ≢ 0 → bearer L s ≡ 0 → (v : ℕ) → 1 ≤ v → v ≤ L .size → L .species v ≢ s
+  unfolding bearer
+  bearer-none z e v l u = next-none (L .size) (L .species) 0 s (rw (not-same z) at e) v l u
 
-  pub seat-inner : seatsFit n m parent species borne ≡ true → (g : ℕ) → 1 ≤ g → g ≤ m → childCount m parent g ≢ 0 → at species g ≡ 0
-  unfolding seatFits speciesFits
-  seat-inner t g l u k = let q : same (at species g) 0 ≡ true = rw (not-same k) at (seat-gene t g l u) in same-is _ _ q
+-- 13: where it does not apply, a leaf gene's species has a bearer, and an inner gene has none
+module _ (L : NodeLines) {K : GeneLines} (t : refusal13 L K ≡ false) (g : ℕ) (k : Gene K g) where
+  species-passes : badSpeciesAt L K g ≡ false
+  unfolding refusal13
+  species-passes = not-some (K .count) (badSpeciesAt L K) t g (k .low) (k .high)
 
-  seat-bad : (g : ℕ) → 1 ≤ g → g ≤ m → seatFits n m parent species borne g ≡ false → NoSeat n m parent species borne
-  unfolding seatFits speciesFits
-  seat-bad g l u t = byEq (childCount m parent g) 0
-      (λ k. byEq (at species g) 0 (λ z. leaf-without-species g l u k z)
-      (λ z. let q : not (same (bearer n borne (at species g)) 0) ≡ false = rw (is-same k) at t in
-      leaf-unknown g l u k (bearer-none n borne (at species g) z (same-is _ _ (not-false _ q)))))
-      (λ k. let q : same (at species g) 0 ≡ false = rw (not-same k) at t in inner-with-species g l u k (same-not _ _ q))
+  pub seat-leaf : childCount K g ≡ 0 → bearer L (K .species g) ≢ 0
+  unfolding badSpeciesAt badSpecies
+  seat-leaf z = let q : same (bearer L (K .species g)) 0 ≡ false = rw (is-same z) at species-passes in same-not _ _ q
 
-  pub no-seat : seatsFit n m parent species borne ≡ false → NoSeat n m parent species borne
-  unfolding seatsFit
-  no-seat t = let r = not-every m (seatFits n m parent species borne) t in seat-bad (r .0) (r .1) (r .2) (r .3)
+  pub seat-inner : childCount K g ≢ 0 → K .species g ≡ 0
+  unfolding badSpeciesAt badSpecies
+  seat-inner d = let q : not (same (K .species g) 0) ≡ false = rw (not-same d) at species-passes in same-is _ _ (not-false _ q)
 
-  pub seats-fit : seatsFit n m parent species borne ≡ true → NoSeat n m parent species borne → ⊥
-  seats-fit t (leaf-without-species g l u k z) = seat-leaf t g l u k (bearer-zero n borne (at species g) z)
-  seats-fit t (leaf-unknown g l u k h) =
-      let d = seat-leaf t g l u k in
-      let r = bearer-in n borne (at species g) d in
-      h (bearer n borne (at species g)) (omega arith) (r .0) (r .1)
-  seats-fit t (inner-with-species g l u k z) = z (seat-inner t g l u k)
+module _ (L : NodeLines) (K : GeneLines) where
+  species-told : (g : ℕ) → Gene K g → badSpeciesAt L K g ≡ true → Refusal13 L K
+  unfolding badSpeciesAt badSpecies
+  species-told g k h = byEq (childCount K g) 0
+      (λ z. byEq (K .species g) 0 (λ e. leaf-without-species g k z e)
+      (λ d. let q : same (bearer L (K .species g)) 0 ≡ true = rw (is-same z) at h in
+      leaf-unknown g k z (bearer-none L (K .species g) d (same-is _ _ q))))
+      (λ d. let q : not (same (K .species g) 0) ≡ true = rw (not-same d) at h in inner-with-species g k d (same-not _ _ (not-true _ q)))
 
-  -- the verdict is 12 just where 12 applies, else 13 just where 13 does, else 0
-  pub verdict-tree : geneVerdict n m parent species borne ≢ 12 → treeFits m parent ≡ true
-  unfolding geneVerdict
-  verdict-tree d = byBool (treeFits m parent) (λ t. t) (λ t. absurd (d (rw t)))
+  from-13 : refusal13 L K ≡ true → Refusal13 L K
+  unfolding refusal13
+  from-13 h = let r = some-at (K .count) (badSpeciesAt L K) h in species-told (r .0) (record { low = r .1; high = r .2 }) (r .3)
 
-  pub verdict-12 : NoTree m parent → geneVerdict n m parent species borne ≡ 12
-  unfolding geneVerdict
-  verdict-12 x = byBool (treeFits m parent) (λ t. absurd (tree-fits m parent t x)) (λ t. rw t)
+  denied-13 : refusal13 L K ≡ false → Refusal13 L K → ⊥
+  denied-13 t (leaf-without-species g k z e) = seat-leaf L t g k z (bearer-zero L (K .species g) e)
+  denied-13 t (leaf-unknown g k z h) =
+      let d = seat-leaf L t g k z in
+      let r = bearer-in L (K .species g) d in
+      h (bearer L (K .species g)) (omega arith) (r .0) (r .1)
+  denied-13 t (inner-with-species g k z d) = d (seat-inner L t g k z)
 
-  pub verdict-13 : ¬ (NoTree m parent) → NoSeat n m parent species borne → geneVerdict n m parent species borne ≡ 13
-  unfolding geneVerdict
-  verdict-13 y x = byBool (treeFits m parent)
-      (λ t. rw t (byBool (seatsFit n m parent species borne) (λ q. absurd (seats-fit q x)) (λ q. rw q)))
-      (λ t. absurd (y (no-tree m parent t)))
+  to-13 : Refusal13 L K → refusal13 L K ≡ true
+  to-13 x = byBool (refusal13 L K) (λ t. t) (λ t. absurd (denied-13 t x))
 
-  pub verdict-0 : ¬ (NoTree m parent) → ¬ (NoSeat n m parent species borne) → geneVerdict n m parent species borne ≡ 0
-  unfolding geneVerdict
-  verdict-0 y x = byBool (treeFits m parent)
-      (λ t. rw t (byBool (seatsFit n m parent species borne) (λ q. rw q) (λ q. absurd (x (no-seat q)))))
-      (λ t. absurd (y (no-tree m parent t)))
+  -- each test tells its condition
+  pub species-tell : AllTell (speciesRefusals L K)
+  unfolding speciesRefusals
+  species-tell = one-more (record { some = λ e. let z : _≡_ {A = ℕ} 13 0 = e in omega arith; yes = from-13; refused = to-13 }) (λ _. no-more)
 
-  -- acceptance
-  pub accept-tree : geneVerdict n m parent species borne ≡ 0 → treeFits m parent ≡ true
-  accept-tree e = verdict-tree (λ q. omega arith)
+  pub gene-tell : AllTell (geneRefusals L K)
+  unfolding geneRefusals
+  gene-tell = one-more (record { some = λ e. let z : _≡_ {A = ℕ} 12 0 = e in omega arith; yes = from-12 K; refused = to-12 K }) (λ _. species-tell)
 
-  pub accept-seats : geneVerdict n m parent species borne ≡ 0 → seatsFit n m parent species borne ≡ true
-  accept-seats e = byBool (seatsFit n m parent species borne) (λ t. t) (λ t. absurd (refused (accept-tree e) t))
-    where
-      refused : treeFits m parent ≡ true → seatsFit n m parent species borne ≡ false → ⊥
-      refused a b = omega (arith, verdict-13 (tree-fits m parent a) (no-seat b))
+  -- the verdict by its tests, as the code finds it
+  pub verdict-12 : refusal12 K ≡ true → verdict (geneRefusals L K) ≡ 12
+  unfolding geneRefusals
+  verdict-12 t = verdict-here _ _ t
+
+  pub past-12 : refusal12 K ≡ false → verdict (geneRefusals L K) ≡ verdict (speciesRefusals L K)
+  unfolding geneRefusals
+  past-12 t = verdict-later _ _ t
+
+  pub verdict-13 : refusal13 L K ≡ true → verdict (speciesRefusals L K) ≡ 13
+  unfolding speciesRefusals
+  verdict-13 t = verdict-here _ _ t
+
+  pub past-13 : refusal13 L K ≡ false → verdict (speciesRefusals L K) ≡ 0
+  unfolding speciesRefusals verdict
+  past-13 t = rw t
+
+-- verdict 0: neither applies
+module _ (L : NodeLines) (K : GeneLines) (ok : verdict (geneRefusals L K) ≡ 0) where
+  pub accept-12 : refusal12 K ≡ false
+  accept-12 = byBool (refusal12 K) (λ t. absurd (omega (arith, verdict-12 L K t))) (λ t. t)
+
+  pub accept-13 : refusal13 L K ≡ false
+  accept-13 = byBool (refusal13 L K) (λ t. absurd (omega (arith, past-12 L K accept-12, verdict-13 L K t))) (λ t. t)

@@ -1,29 +1,38 @@
-// The gene tree's tables: refusals 12 and 13, the children of each gene and the node of each leaf gene. Entry g of a table is about gene g.
-use tables::wide;
+// The gene tree of a sheet: refusals 12 and 13, and the table of each gene's children, leaf and parent.
+use columns::FIELDS;
+use layout::genes;
+use layout::genes::Genes;
+use layout::lines::Lines;
+use layout::lines::gene_parent;
+use layout::lines::gene_species;
+use layout::lines::node_species;
+use tables::Table;
 ghost use mathlib.Core.Path.{_≡_};
-ghost use mathlib.Core.Bool.{_&&_};
+ghost use mathlib.Core.Bool.{_||_};
 ghost use Prim.Native.Nat.{_≤_};
-ghost use Rattle.finite.specs.Tables.{zeros};
-ghost use Rattle.tables.specs.Children.{firstChildren, childCounts};
-ghost use Rattle.gene_tree.specs.Refusals.{isNext, next, parentFits, childrenFit, treeFits, bearer, speciesFits, seatsFit, geneVerdict};
-ghost use Rattle.gene_tree.specs.Genes.{leftTable, rightTable, leafTable, leafOf};
+ghost use lib.ListN.{length};
+ghost use Rattle.finite.specs.Refusals.{verdict};
+ghost use Rattle.tables.specs.Columns.{column, blank, Clear};
+ghost use Rattle.tables.specs.Children.{next};
+ghost use Rattle.layout.specs.Lines.{nodesIn, genesIn};
+ghost use Rattle.layout.specs.Genes.{geneTree, leafColumn, parentColumn};
+ghost use Rattle.gene_tree.specs.Refusals.{badParent, badCount, refusal12, bearer, badSpecies, refusal13, speciesRefusals, geneRefusals};
+ghost use Rattle.gene_tree.specs.Genes.{leafOf, geneTreeOf};
+ghost use Rattle.gene_tree.specs.Work.{childCountColumn, ChildCounts, Bearers};
 
-// Whether the entry of v is x.
-fn is_next(l: &[u32; 128], x: usize, v: usize) -> bool
-    requires { ⌜ (1 ≤ v) × (v ≤ 127) ⌝ }
-    ensures { λ r. ⌜ r ≡ isNext (now (l .entry)) 0 x v ⌝ }
-{
-    wide(l[v]) == x
-}
+// The columns of the table that is worked out first: of each gene how many children it has, of each number up to n the node that bears it as a species.
+const CHILD_COUNT: usize = 0;
 
-// The lowest of 1 to n whose entry is x, 0 where there is none.
-fn next_of(n: usize, l: &[u32; 128], x: usize) -> usize
+const BEARER: usize = 1;
+
+// The lowest node of species s, 0 where there is none.
+fn sought(n: usize, lines: &Lines, s: usize) -> usize
     requires { ⌜ n ≤ 127 ⌝ }
-    ensures { λ r. ⌜ (r ≡ next n (now (l .entry)) 0 x) × (r ≤ n) ⌝ }
+    ensures { λ r. ⌜ (r ≡ next n (nodesIn n (now (lines .entry)) .species) 0 s) × (r ≤ n) ⌝ }
 {
     let mut v: usize = 0;
     while v < n {
-        if is_next(l, x, v + 1) {
+        if node_species(lines, v + 1) == s {
             return v + 1;
         }
         v += 1;
@@ -31,168 +40,176 @@ fn next_of(n: usize, l: &[u32; 128], x: usize) -> usize
     0
 }
 
-fn parent_fits(g: usize, p: usize) -> bool
-    ensures { λ r. ⌜ r ≡ parentFits g p ⌝ }
+// The node that bears species s, 0 where none does. No species is borne by no node, though other nodes than leaves have 0 there. Species are most
+// often numbered from 1, so the bearers of the numbers up to n are looked up in a table, and only others are sought.
+fn bearer_of(n: usize, lines: &Lines, work: &Table, s: usize) -> usize
+    requires { ⌜ (n ≤ 127) × Bearers (nodesIn n (now lines)) (now work) ⌝ }
+    ensures { λ r. ⌜ (r ≡ bearer (nodesIn n (now (lines .entry))) s) × (r ≤ n) ⌝ }
 {
-    if g == 1 {
-        return p == 0;
+    if s <= n {
+        return tables::index(work, BEARER, s);
     }
-    if p == 0 {
-        return false;
-    }
-    p < g
+    sought(n, lines, s)
 }
 
-fn children_fit(k: usize) -> bool
-    ensures { λ r. ⌜ r ≡ childrenFit k ⌝ }
+// The bearers of the numbers up to n, in a table of zeros.
+fn note_bearers(n: usize, lines: &Lines, work: &mut Table)
+    requires { ⌜ (n ≤ 127) × (now work ≡ blank) ⌝ }
+    ensures { λ _. ⌜ Bearers (nodesIn n (now (lines .entry))) (now (work .exit)) × Clear childCountColumn (now (work .exit)) ⌝ }
 {
-    if k == 0 {
+    tables::next_children(n, lines, 4, FIELDS, work, CHILD_COUNT, BEARER);
+}
+
+fn bad_parent(g: usize, p: usize) -> bool
+    ensures { λ r. ⌜ r ≡ badParent g p ⌝ }
+{
+    if g == 1 {
+        return p != 0;
+    }
+    if p == 0 {
         return true;
     }
-    k == 2
+    !(p < g)
+}
+
+fn bad_count(k: usize) -> bool
+    ensures { λ r. ⌜ r ≡ badCount k ⌝ }
+{
+    if k == 0 {
+        return false;
+    }
+    k != 2
 }
 
 // A gene g with the parent p and k children.
-fn gene_fits(g: usize, p: usize, k: usize) -> bool
-    ensures { λ r. ⌜ r ≡ (parentFits g p && childrenFit k) ⌝ }
+fn bad_gene(g: usize, p: usize, k: usize) -> bool
+    ensures { λ r. ⌜ r ≡ (badParent g p || badCount k) ⌝ }
 {
-    if !parent_fits(g, p) {
-        return false;
+    if bad_parent(g, p) {
+        return true;
     }
-    children_fit(k)
+    bad_count(k)
 }
 
-// 12: whether the genes 1 to m form a tree, given how many children each has.
-fn tree_fits(m: usize, parent: &[u32; 128], counts: &[u32; 128]) -> bool
-    requires { ⌜ (m ≤ 127) × (now counts ≡ childCounts m (now parent)) ⌝ }
-    ensures { λ r. ⌜ r ≡ treeFits m (now (parent .entry)) ⌝ }
+// 12: whether the genes 1 to m do not form a tree.
+fn twelve(n: usize, m: usize, lines: &Lines, work: &Table) -> bool
+    requires { ⌜ (n ≤ 127) × (m ≤ 127) × ChildCounts (genesIn n m (now lines)) (now work) ⌝ }
+    ensures { λ r. ⌜ r ≡ refusal12 (genesIn n m (now (lines .entry))) ⌝ }
 {
     let mut g: usize = 0;
     while g < m {
         let w = g + 1;
-        if !gene_fits(w, wide(parent[w]), wide(counts[w])) {
-            return false;
+        if bad_gene(
+            w,
+            gene_parent(lines, n, w),
+            tables::index(work, CHILD_COUNT, w),
+        ) {
+            return true;
         }
         g = w;
     }
-    true
+    false
 }
 
-// The node that bears species s, 0 where none does. No species is borne by no node, though other nodes than leaves have 0 there. Species are most
-// often numbered from 1, so the bearers of the numbers up to n are looked up in a table, and only others are sought.
-fn bearer_of(n: usize, borne: &[u32; 128], bearers: &[u32; 128], s: usize) -> usize
-    requires { ⌜ (n ≤ 127) × (now bearers ≡ firstChildren n (now borne)) ⌝ }
-    ensures { λ r. ⌜ (r ≡ bearer n (now (borne .entry)) s) × (r ≤ n) ⌝ }
-{
-    if s <= n {
-        return wide(bearers[s]);
-    }
-    next_of(n, borne, s)
-}
-
-fn species_fits(n: usize, borne: &[u32; 128], bearers: &[u32; 128], k: usize, s: usize) -> bool
-    requires { ⌜ (n ≤ 127) × (now bearers ≡ firstChildren n (now borne)) ⌝ }
-    ensures { λ r. ⌜ r ≡ speciesFits n (now (borne .entry)) k s ⌝ }
+// A gene with k children, of species s.
+fn bad_species(n: usize, lines: &Lines, work: &Table, k: usize, s: usize) -> bool
+    requires { ⌜ (n ≤ 127) × Bearers (nodesIn n (now lines)) (now work) ⌝ }
+    ensures { λ r. ⌜ r ≡ badSpecies (nodesIn n (now (lines .entry))) k s ⌝ }
 {
     if k != 0 {
-        return s == 0;
+        return s != 0;
     }
-    bearer_of(n, borne, bearers, s) != 0
+    bearer_of(n, lines, work, s) == 0
 }
 
-// 13: whether each leaf gene has a leaf of its species, and no inner gene has a species.
-fn seats_fit(
-    n: usize,
-    m: usize,
-    parent: &[u32; 128],
-    counts: &[u32; 128],
-    species: &[u32; 128],
-    borne: &[u32; 128],
-) -> bool
-    requires { ⌜ (n ≤ 127) × (m ≤ 127) × (now counts ≡ childCounts m (now parent)) ⌝ }
-    ensures { λ r. ⌜ r ≡ seatsFit n m (now (parent .entry)) (now (species .entry)) (now (borne .entry)) ⌝ }
+// 13: whether a leaf gene has no leaf of its species, or an inner gene has a species.
+fn thirteen(n: usize, m: usize, lines: &Lines, work: &Table) -> bool
+    requires { ⌜ (n ≤ 127) × (m ≤ 127) × ChildCounts (genesIn n m (now lines)) (now work) × Bearers (nodesIn n (now lines)) (now work) ⌝ }
+    ensures { λ r. ⌜ r ≡ refusal13 (nodesIn n (now (lines .entry))) (genesIn n m (now (lines .entry))) ⌝ }
 {
-    let mut bearers = [0u32; 128];
-    tables::first_children(n, borne, &mut bearers);
     let mut g: usize = 0;
     while g < m {
         let w = g + 1;
-        if !species_fits(n, borne, &bearers, wide(counts[w]), wide(species[w])) {
-            return false;
+        let k = tables::index(work, CHILD_COUNT, w);
+        if bad_species(n, lines, work, k, gene_species(lines, n, w)) {
+            return true;
         }
         g = w;
     }
-    true
+    false
 }
 
-// The first of 12 and 13 that applies to the genes 1 to m on the nodes 1 to n, 0 where none does; for any entries.
-pub fn verdict(
-    m: usize,
-    parent: &[u32; 128],
-    species: &[u32; 128],
-    n: usize,
-    borne: &[u32; 128],
-) -> u32
-    requires { ⌜ (n ≤ 127) × (m ≤ 127) ⌝ }
-    ensures { λ r. ⌜ r ≡ geneVerdict n m (now (parent .entry)) (now (species .entry)) (now (borne .entry)) ⌝ }
+// The first refusal from 13 on that applies, 0 where none does.
+fn from_thirteen(n: usize, m: usize, lines: &Lines, work: &Table) -> u32
+    requires { ⌜ (n ≤ 127) × (m ≤ 127) × ChildCounts (genesIn n m (now lines)) (now work) × Bearers (nodesIn n (now lines)) (now work) ⌝ }
+    ensures { λ r. ⌜ r ≡ verdict (speciesRefusals (nodesIn n (now (lines .entry))) (genesIn n m (now (lines .entry)))) ⌝ }
 {
-    let mut counts = [0u32; 128];
-    tables::child_counts(m, parent, &mut counts);
-    if !tree_fits(m, parent, &counts) {
-        return 12;
-    }
-    if !seats_fit(n, m, parent, &counts, species, borne) {
+    if thirteen(n, m, lines, work) {
         return 13;
     }
     0
 }
 
-// Each gene's lowest-numbered child, 0 for a leaf gene.
-pub fn left_children(m: usize, parent: &[u32; 128], out: &mut [u32; 128])
-    requires { ⌜ (m ≤ 127) × (now out ≡ zeros) ⌝ }
-    ensures { λ _. ⌜ now (out .exit) ≡ leftTable m (now (parent .entry)) ⌝ }
+// The same from 12 on.
+fn from_twelve(n: usize, m: usize, lines: &Lines, work: &Table) -> u32
+    requires { ⌜ (n ≤ 127) × (m ≤ 127) × ChildCounts (genesIn n m (now lines)) (now work) × Bearers (nodesIn n (now lines)) (now work) ⌝ }
+    ensures { λ r. ⌜ r ≡ verdict (geneRefusals (nodesIn n (now (lines .entry))) (genesIn n m (now (lines .entry)))) ⌝ }
 {
-    tables::first_children(m, parent, out);
+    if twelve(n, m, lines, work) {
+        return 12;
+    }
+    from_thirteen(n, m, lines, work)
 }
 
-// Each gene's other child, 0 for a leaf gene, by the table of the lowest-numbered ones.
-pub fn right_children(m: usize, parent: &[u32; 128], left: &[u32; 128], out: &mut [u32; 128])
-    requires { ⌜ (m ≤ 127) × (now left ≡ leftTable m (now parent)) × (now out ≡ zeros) ⌝ }
-    ensures { λ _. ⌜ now (out .exit) ≡ rightTable m (now (parent .entry)) ⌝ }
+// The first of the gene lines' refusals that applies, 0 where none does, for any lines of n nodes and m genes.
+pub fn verdict(n: usize, m: usize, lines: &Lines) -> u32
+    requires { ⌜ (n ≤ 127) × (m ≤ 127) ⌝ }
+    ensures { λ r. ⌜ r ≡ verdict (geneRefusals (nodesIn n (now (lines .entry))) (genesIn n m (now (lines .entry)))) ⌝ }
 {
-    tables::second_children(m, parent, left, out);
+    let mut work = [0u32; 512];
+    note_bearers(n, lines, &mut work);
+    tables::child_counts(m, lines, FIELDS * n + 1, FIELDS, &mut work, CHILD_COUNT);
+    from_twelve(n, m, lines, &work)
 }
 
-fn leaf_of(
-    n: usize,
-    species: &[u32; 128],
-    borne: &[u32; 128],
-    bearers: &[u32; 128],
-    g: usize,
-) -> u32
-    requires { ⌜ (n ≤ 127) × (g ≤ 127) × (now bearers ≡ firstChildren n (now borne)) ⌝ }
-    ensures { λ r. ⌜ r ≡ leafOf n (now (species .entry)) (now (borne .entry)) g ⌝ }
+// The node that bears the species of each gene: that at which a leaf gene sits.
+fn fill_leaves(n: usize, m: usize, lines: &Lines, work: &Table, genes: &mut Genes)
+    requires { ⌜ (n ≤ 127) × (m ≤ 127) × Bearers (nodesIn n (now lines)) (now work) ⌝ }
+    ensures { λ _. ⌜ now (genes .exit) ≡ column leafColumn m (now (genes .entry)) (leafOf (nodesIn n (now (lines .entry))) (genesIn n m (now (lines .entry)))) ⌝ }
 {
-    bearer_of(n, borne, bearers, wide(species[g])) as u32
-}
-
-// The node at which each leaf gene sits, 0 for an inner gene.
-pub fn leaf_nodes(
-    m: usize,
-    species: &[u32; 128],
-    n: usize,
-    borne: &[u32; 128],
-    out: &mut [u32; 128],
-)
-    requires { ⌜ (n ≤ 127) × (m ≤ 127) × (now out ≡ zeros) ⌝ }
-    ensures { λ _. ⌜ now (out .exit) ≡ leafTable n m (now (species .entry)) (now (borne .entry)) ⌝ }
-{
-    let mut bearers = [0u32; 128];
-    tables::first_children(n, borne, &mut bearers);
     let mut g: usize = 0;
     while g < m {
         let w = g + 1;
-        out[w] = leaf_of(n, species, borne, &bearers, w);
+        let v = bearer_of(n, lines, work, gene_species(lines, n, w));
+        tables::put(genes, genes::LEAF, w, v as u32);
         g = w;
     }
+}
+
+fn fill_parents(n: usize, m: usize, lines: &Lines, genes: &mut Genes)
+    requires { ⌜ (n ≤ 127) × (m ≤ 127) ⌝ }
+    ensures { λ _. ⌜ now (genes .exit) ≡ column parentColumn m (now (genes .entry)) (genesIn n m (now (lines .entry)) .parent) ⌝ }
+{
+    let mut g: usize = 0;
+    while g < m {
+        let w = g + 1;
+        let p = lines[FIELDS * n + 1 + FIELDS * w];
+        tables::put(genes, genes::PARENT, w, p);
+        g = w;
+    }
+}
+
+// The gene tree of the lines, in a table of zeros; for any lines of n nodes and m genes.
+pub fn fill(n: usize, m: usize, lines: &Lines, genes: &mut Genes)
+    requires { ⌜ (n ≤ 127) × (m ≤ 127) × (now genes ≡ blank) ⌝ }
+    ensures { λ _. ⌜ geneTree m (now (genes .exit)) ≡ geneTreeOf (nodesIn n (now (lines .entry))) (genesIn n m (now (lines .entry))) ⌝ }
+    ensures { λ _. ⌜ length (now (genes .exit)) ≡ 512 ⌝ }
+{
+    let mut work = [0u32; 512];
+    note_bearers(n, lines, &mut work);
+    let parents = FIELDS * n + 1;
+    tables::next_children(m, lines, parents, FIELDS, genes, genes::PARENT, genes::LEFT);
+    tables::next_children(m, lines, parents, FIELDS, genes, genes::LEFT, genes::RIGHT);
+    fill_leaves(n, m, lines, &work, genes);
+    fill_parents(n, m, lines, genes);
 }

@@ -1,14 +1,13 @@
 -- The report (01, "The report"): which lines it has. The numbers of a line come as functions of the node or the gene, so that the same definition
--- serves tables and the model.
+-- serves tables (specs/Tables) and the model.
 -- Assumes nothing.
 use Prim.Native.Nat.{ℕ, zero, suc, _+_, _*_, _<_}
-use mathlib.Core.Bool.{Bool, true, cond, not}
+use mathlib.Core.Bool.{Bool, true, cond}
 use mathlib.Core.Path.{_≡_}
 use mathlib.Core.List.{List, [], _∷_, _++_}
-use Rattle.finite.specs.Tests.{same, tally}
+use Rattle.finite.specs.Tests.{tally}
 use Rattle.finite.specs.Range.{count}
-use Rattle.finite.specs.Tables.{at}
-use Rattle.columns.specs.Lines.{lineLength, lineOf, Small, put}
+use Rattle.columns.specs.Lines.{lineLength, lineOf, put}
 use Rattle.report.specs.declared.Totals.{Totals}
 
 -- the numbers of a line: five, as `fieldCount` of columns says
@@ -50,39 +49,22 @@ abbrev pub always : ℕ → Bool
 always g = true
 
 -- "for each reticulation, rising: node, parent taken, 1 if secondary else 0, top of its component, reticulations there"
-abbrev pub reticulationFields : (taken second top held : ℕ → ℕ) → ℕ → List ℕ
-reticulationFields taken second top held v = fiveOf v (taken v) (second v) (top v) (held (top v))
+abbrev pub reticulationFields : (taken second top count : ℕ → ℕ) → ℕ → List ℕ
+reticulationFields taken second top count v = fiveOf v (taken v) (second v) (top v) (count (top v))
 
 -- "for each gene: gene, place, event, transfers and losses on the way from its parent gene"
 abbrev pub geneFields : (place event transfers losses : ℕ → ℕ) → ℕ → List ℕ
 geneFields place event transfers losses g = fiveOf g (place g) (event g) (transfers g) (losses g)
 
--- a node with a secondary parent, as a table has them
-unfoldable pub hasSecondary : List ℕ → ℕ → Bool
-hasSecondary secondary v = not (same (at secondary v) 0)
-
 -- the whole report
-unfoldable pub reportOf : Totals → (n m : ℕ) → (ℕ → Bool) → (taken second top held place event transfers losses : ℕ → ℕ) → List ℕ
-reportOf t n m reticulation taken second top held place event transfers losses = totalsLines t
-    ++ linesWhere reticulation (reticulationFields taken second top held) n
+unfoldable pub reportOf : Totals → (n m : ℕ) → (ℕ → Bool) → (taken second top count place event transfers losses : ℕ → ℕ) → List ℕ
+reportOf t n m reticulation taken second top count place event transfers losses = totalsLines t
+    ++ linesWhere reticulation (reticulationFields taken second top count) n
     ++ linesWhere always (geneFields place event transfers losses) m
 
 -- its bytes
 unfoldable pub reportLength : (n m : ℕ) → (ℕ → Bool) → ℕ
 reportLength n m reticulation = lineLength * (2 + count n reticulation + m)
-
--- tables whose numbers have fields; a top is a node
-pub record Reticulations (taken second top held : List ℕ) : Type 0 where
-  pub taken-small : Small taken
-  pub second-small : Small second
-  pub top-node : (v : ℕ) → at top v < 128
-  pub held-small : Small held
-
-pub record Genes (place event transfers losses : List ℕ) : Type 0 where
-  pub place-small : Small place
-  pub event-small : Small event
-  pub transfers-small : Small transfers
-  pub losses-small : Small losses
 
 -- d has become e by a line at the place `start`, if the test holds, and r is the place after it
 pub record Appended (d e : List ℕ) (start r : ℕ) (test : Bool) (fields : List ℕ) : Type 0 where
@@ -90,6 +72,6 @@ pub record Appended (d e : List ℕ) (start r : ℕ) (test : Bool) (fields : Lis
   pub after : r ≡ start + lineLength * tally test
 
 -- d has become e by a line for each of 1..k that passes the test, from the place `start` on, and r is the place after them
-pub record Lines (d e : List ℕ) (start r : ℕ) (test : ℕ → Bool) (fields : ℕ → List ℕ) (k : ℕ) : Type 0 where
+pub record Extended (d e : List ℕ) (start r : ℕ) (test : ℕ → Bool) (fields : ℕ → List ℕ) (k : ℕ) : Type 0 where
   pub bytes : e ≡ put d start (linesWhere test fields k)
   pub after : r ≡ start + lineLength * count k test

@@ -1,13 +1,26 @@
 // The report: its lines, each written into what is left of the result.
+use layout::lines::Lines;
+use layout::lines::secondary;
+use layout::parts::Parts;
+use layout::parts::reticulation_count;
+use layout::parts::top;
+use layout::results::Results;
+use layout::results::event;
+use layout::results::losses;
+use layout::results::place;
+use layout::results::transfers;
+use layout::tree::Tree;
+use layout::tree::lateral;
+use layout::tree::up;
 ghost use mathlib.Core.Path.{_≡_};
 ghost use mathlib.Core.Bool.{true};
 ghost use Prim.Native.Nat.{_+_, _*_, _≤_, _<_};
 ghost use lib.ListN.{length};
 ghost use Rattle.finite.specs.Tests.{tally};
 ghost use Rattle.finite.specs.Range.{count};
-ghost use Rattle.finite.specs.Tables.{at};
 ghost use Rattle.columns.specs.Lines.{lineLength, written};
-ghost use Rattle.report.specs.Reports.{SmallTotals, totalsLines, always, fiveOf, hasSecondary, reticulationFields, geneFields, reportLength, reportOf, SmallFive, Reticulations, Genes, Appended, Lines};
+ghost use Rattle.report.specs.Reports.{SmallTotals, totalsLines, always, fiveOf, reportLength, SmallFive, Appended, Extended};
+ghost use Rattle.report.specs.Tables.{hasSecondary, reticulationIn, reticulationNumbers, geneNumbers, tabledReport, SmallNode, SmallNodes, SmallGene, SmallGenes};
 
 // The numbers of the first two lines.
 pub struct Totals {
@@ -64,28 +77,28 @@ fn write_totals(result: &mut [u8], t: Totals) -> usize
     )
 }
 
-fn wide(x: u32) -> usize
-    ensures { λ r. ⌜ r ≡ x ⌝ }
-{
-    x as usize
-}
-
 // The line of reticulation v.
 fn write_reticulation(
     result: &mut [u8],
     start: usize,
     v: usize,
-    taken: &[u32; 128],
-    second: &[u32; 128],
-    top: &[u32; 128],
-    held: &[u32; 128],
+    tree: &Tree,
+    parts: &Parts,
 ) -> usize
-    requires { ⌜ (start + lineLength ≤ length (now result)) × (v ≤ 127) × Reticulations (now taken) (now second) (now top) (now held) ⌝ }
-    ensures { λ r. ⌜ Appended (now (result .entry)) (now (result .exit)) start r true (reticulationFields (at (now (taken .entry))) (at (now (second .entry))) (at (now (top .entry))) (at (now (held .entry))) v) ⌝ }
+    requires { ⌜ (start + lineLength ≤ length (now result)) × (v ≤ 127) × SmallNode (now tree) (now parts) v ⌝ }
+    ensures { λ r. ⌜ Appended (now (result .entry)) (now (result .exit)) start r true (reticulationNumbers (now (tree .entry)) (now (parts .entry)) v) ⌝ }
 {
-    let t = top[v];
-    let h = held[wide(t)];
-    write_five(result, start, v as u32, taken[v], second[v], t, h)
+    let c = top(parts, v);
+    let taken = up(tree, v) as u32;
+    write_five(
+        result,
+        start,
+        v as u32,
+        taken,
+        lateral(tree, v),
+        c as u32,
+        reticulation_count(parts, c),
+    )
 }
 
 // The line of node v, if it is a reticulation.
@@ -93,87 +106,67 @@ fn write_if_reticulation(
     result: &mut [u8],
     start: usize,
     v: usize,
-    secondary: &[u32; 128],
-    taken: &[u32; 128],
-    second: &[u32; 128],
-    top: &[u32; 128],
-    held: &[u32; 128],
+    lines: &Lines,
+    tree: &Tree,
+    parts: &Parts,
 ) -> usize
-    requires { ⌜ (v ≤ 127) × Reticulations (now taken) (now second) (now top) (now held) × (start + lineLength * tally (hasSecondary (now secondary) v) ≤ length (now result)) ⌝ }
-    ensures { λ r. ⌜ Appended (now (result .entry)) (now (result .exit)) start r (hasSecondary (now (secondary .entry)) v) (reticulationFields (at (now (taken .entry))) (at (now (second .entry))) (at (now (top .entry))) (at (now (held .entry))) v) ⌝ }
+    requires { ⌜ (v ≤ 127) × SmallNode (now tree) (now parts) v × (start + lineLength * tally (hasSecondary (now lines) v) ≤ length (now result)) ⌝ }
+    ensures { λ r. ⌜ Appended (now (result .entry)) (now (result .exit)) start r (hasSecondary (now (lines .entry)) v) (reticulationNumbers (now (tree .entry)) (now (parts .entry)) v) ⌝ }
 {
-    if secondary[v] == 0 {
+    if secondary(lines, v) == 0 {
         return start;
     }
-    write_reticulation(result, start, v, taken, second, top, held)
+    write_reticulation(result, start, v, tree, parts)
 }
 
-// A line for each reticulation.
+// A line for each reticulation of 1 to n.
 fn write_reticulations(
     result: &mut [u8],
     start: usize,
     n: usize,
-    secondary: &[u32; 128],
-    taken: &[u32; 128],
-    second: &[u32; 128],
-    top: &[u32; 128],
-    held: &[u32; 128],
+    lines: &Lines,
+    tree: &Tree,
+    parts: &Parts,
 ) -> usize
-    requires { ⌜ (n ≤ 127) × Reticulations (now taken) (now second) (now top) (now held) × (start + lineLength * count n (hasSecondary (now secondary)) ≤ length (now result)) ⌝ }
-    ensures { λ r. ⌜ Lines (now (result .entry)) (now (result .exit)) start r (hasSecondary (now (secondary .entry))) (reticulationFields (at (now (taken .entry))) (at (now (second .entry))) (at (now (top .entry))) (at (now (held .entry)))) n ⌝ }
+    requires { ⌜ (n ≤ 127) × SmallNodes n (now tree) (now parts) × (start + lineLength * count n (reticulationIn n (now lines)) ≤ length (now result)) ⌝ }
+    ensures { λ r. ⌜ Extended (now (result .entry)) (now (result .exit)) start r (reticulationIn n (now (lines .entry))) (reticulationNumbers (now (tree .entry)) (now (parts .entry))) n ⌝ }
 {
     let mut next = start;
     let mut v = 0;
     while v < n {
         let w = v + 1;
-        next = write_if_reticulation(result, next, w, secondary, taken, second, top, held);
+        next = write_if_reticulation(result, next, w, lines, tree, parts);
         v = w;
     }
     next
 }
 
 // The line of gene g.
-fn write_gene(
-    result: &mut [u8],
-    start: usize,
-    g: usize,
-    place: &[u32; 128],
-    event: &[u32; 128],
-    transfers: &[u32; 128],
-    losses: &[u32; 128],
-) -> usize
-    requires { ⌜ (start + lineLength ≤ length (now result)) × (g ≤ 127) × Genes (now place) (now event) (now transfers) (now losses) ⌝ }
-    ensures { λ r. ⌜ Appended (now (result .entry)) (now (result .exit)) start r true (geneFields (at (now (place .entry))) (at (now (event .entry))) (at (now (transfers .entry))) (at (now (losses .entry))) g) ⌝ }
+fn write_gene(result: &mut [u8], start: usize, g: usize, results: &Results) -> usize
+    requires { ⌜ (start + lineLength ≤ length (now result)) × (g ≤ 127) × SmallGene (now results) g ⌝ }
+    ensures { λ r. ⌜ Appended (now (result .entry)) (now (result .exit)) start r true (geneNumbers (now (results .entry)) g) ⌝ }
 {
     write_five(
         result,
         start,
         g as u32,
-        place[g],
-        event[g],
-        transfers[g],
-        losses[g],
+        place(results, g) as u32,
+        event(results, g),
+        transfers(results, g),
+        losses(results, g),
     )
 }
 
-// A line for each gene.
-fn write_genes(
-    result: &mut [u8],
-    start: usize,
-    m: usize,
-    place: &[u32; 128],
-    event: &[u32; 128],
-    transfers: &[u32; 128],
-    losses: &[u32; 128],
-) -> usize
-    requires { ⌜ (m ≤ 127) × Genes (now place) (now event) (now transfers) (now losses) × (start + lineLength * m ≤ length (now result)) ⌝ }
-    ensures { λ r. ⌜ Lines (now (result .entry)) (now (result .exit)) start r always (geneFields (at (now (place .entry))) (at (now (event .entry))) (at (now (transfers .entry))) (at (now (losses .entry)))) m ⌝ }
+// A line for each gene of 1 to m.
+fn write_genes(result: &mut [u8], start: usize, m: usize, results: &Results) -> usize
+    requires { ⌜ (m ≤ 127) × SmallGenes m (now results) × (start + lineLength * m ≤ length (now result)) ⌝ }
+    ensures { λ r. ⌜ Extended (now (result .entry)) (now (result .exit)) start r always (geneNumbers (now (results .entry))) m ⌝ }
 {
     let mut next = start;
     let mut g = 0;
     while g < m {
         let h = g + 1;
-        next = write_gene(result, next, h, place, event, transfers, losses);
+        next = write_gene(result, next, h, results);
         g = h;
     }
     next
@@ -185,20 +178,17 @@ pub fn write_report(
     totals: Totals,
     n: usize,
     m: usize,
-    secondary: &[u32; 128],
-    taken: &[u32; 128],
-    second: &[u32; 128],
-    top: &[u32; 128],
-    held: &[u32; 128],
-    place: &[u32; 128],
-    event: &[u32; 128],
-    transfers: &[u32; 128],
-    losses: &[u32; 128],
+    lines: &Lines,
+    tree: &Tree,
+    parts: &Parts,
+    results: &Results,
 ) -> usize
-    requires { ⌜ (n ≤ 127) × (m ≤ 127) × SmallTotals totals × Reticulations (now taken) (now second) (now top) (now held) × Genes (now place) (now event) (now transfers) (now losses) × (reportLength n m (hasSecondary (now secondary)) ≤ length (now result)) ⌝ }
-    ensures { λ r. ⌜ (now (result .exit) ≡ written (now (result .entry)) (reportOf totals n m (hasSecondary (now (secondary .entry))) (at (now (taken .entry))) (at (now (second .entry))) (at (now (top .entry))) (at (now (held .entry))) (at (now (place .entry))) (at (now (event .entry))) (at (now (transfers .entry))) (at (now (losses .entry))))) × (r ≡ reportLength n m (hasSecondary (now (secondary .entry)))) ⌝ }
+    requires { ⌜ (n ≤ 127) × (m ≤ 127) × SmallTotals totals × SmallNodes n (now tree) (now parts) × SmallGenes m (now results) ⌝ }
+    requires { ⌜ reportLength n m (reticulationIn n (now lines)) ≤ length (now result) ⌝ }
+    ensures { λ r. ⌜ now (result .exit) ≡ written (now (result .entry)) (tabledReport totals n m (now (lines .entry)) (now (tree .entry)) (now (parts .entry)) (now (results .entry))) ⌝ }
+    ensures { λ r. ⌜ r ≡ reportLength n m (reticulationIn n (now (lines .entry))) ⌝ }
 {
     let next = write_totals(result, totals);
-    let last = write_reticulations(result, next, n, secondary, taken, second, top, held);
-    write_genes(result, last, m, place, event, transfers, losses)
+    let last = write_reticulations(result, next, n, lines, tree, parts);
+    write_genes(result, last, m, results)
 }

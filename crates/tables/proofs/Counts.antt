@@ -6,52 +6,53 @@ use mathlib.Core.Logic.{_≢_}
 use mathlib.Core.List.{List}
 use Prim.Native.Nat.{ℕ, _+_, _≤_, _<_}
 use native.Mathlib.Omega.{arith}
-use lib.ListN.{set, length-set}
-use lib.Seq.{getD-set-same, getD-set-other}
 use Rattle.finite.specs.Tests.{same}
 use Rattle.finite.specs.Range.{children}
-use Rattle.finite.specs.Tables.{at, zeros}
 use Rattle.finite.proofs.Cases.{byEq, byLess}
 use Rattle.finite.proofs.Tests.{is-same, not-same}
 use Rattle.finite.proofs.Count.{count-start, count-turn}
-use Rattle.finite.proofs.Tables.{zeros-at, zeros-long, zeros-ext}
-use Rattle.tables.specs.Children.{childCounts, inside, Counted}
+use Rattle.tables.specs.Columns.{entry, written, column, Clear, Kept}
+use Rattle.tables.specs.Children.{inside, Counted}
+use Rattle.tables.proofs.Columns.{long, write-here, write-row, write-column, column-is}
 use Rattle.tables.proofs.Nexts.{inside-in, inside-out}
 
-module _ (n : ℕ) (parents : List ℕ) (few : n ≤ 127) where
-  pub counted-start : Counted n parents 0 zeros
+module _ (n : ℕ) (f : ℕ → ℕ) (k : ℕ) (few : n ≤ 127) (lk : k < 4) where
+  pub counted-start : (out : List ℕ) → Clear k out → Counted n f k 0 out
   unfolding children
-  counted-start = record {
-    long = zeros-long;
-    within = λ v l u. zeros-at v ∙ count-start _;
-    past = λ v l. zeros-at v;
-    small = λ v. omega (arith, zeros-at v);
+  counted-start out c = record {
+    long = c .long;
+    within = λ v l u. c .none v ∙ count-start _;
+    past = λ v l. c .none v;
+    small = λ v. omega (arith, c .none v);
   }
 
-  hit : (w v : ℕ) → at parents (w + 1) ≡ v → children w (at parents) v + 1 ≡ children (w + 1) (at parents) v
+  hit : (w v : ℕ) → f (w + 1) ≡ v → children w f v + 1 ≡ children (w + 1) f v
   unfolding children
-  hit w v e = count-turn (λ x. same (at parents x) v) w _ 1 refl (rw (is-same e))
+  hit w v e = count-turn (λ x. same (f x) v) w _ 1 refl (rw (is-same e))
 
-  miss : (w v : ℕ) → at parents (w + 1) ≢ v → children w (at parents) v ≡ children (w + 1) (at parents) v
+  miss : (w v : ℕ) → f (w + 1) ≢ v → children w f v ≡ children (w + 1) f v
   unfolding children
-  miss w v d = omega (arith, count-turn (λ x. same (at parents x) v) w _ 0 refl (rw (not-same d)))
+  miss w v d = omega (arith, count-turn (λ x. same (f x) v) w _ 0 refl (rw (not-same d)))
 
-  pub counted-turn : (w p q : ℕ) (out : List ℕ) → w < n → p ≡ at parents (w + 1) → q ≡ inside n p → q ≤ n → Counted n parents w out
-      → Counted n parents (w + 1) (set out q (at out q + 1))
-  counted-turn w p q out lw ep eq uq s = record {
-    long = length-set out q (at out q + 1) ∙ s .long;
+  pub counted-turn : (w p q x : ℕ) (out : List ℕ) → w < n → p ≡ f (w + 1) → q ≡ inside n p → q ≤ n → x ≡ entry out k q → Counted n f k w out
+      → Counted n f k (w + 1) (written out k q (x + 1))
+  counted-turn w p q x out lw ep eq uq ex s = record {
+    long = long out k q (x + 1) lq ∙ s .long;
     within = λ v l u. byEq v q
-        (λ e. rw e (here ∙ ap (λ (x : ℕ). x + 1) (s .within q (rw e at l) uq) ∙ hit w q (sym ep ∙ sym (taken (rw e at l)))))
+        (λ e. rw e (here ∙ ap (λ (y : ℕ). y + 1) (ex ∙ s .within q (rw e at l) uq) ∙ hit w q (sym ep ∙ sym (taken (rw e at l)))))
         (λ d. there v d ∙ s .within v l u ∙ miss w v (λ e. d (passed v u (sym e ∙ sym ep))));
     past = λ v l. there v (λ e. omega arith) ∙ s .past v l;
-    small = λ v. byEq v q (λ e. rw e (omega (arith, here, s .small q))) (λ d. omega (arith, there v d, s .small v));
+    small = λ v. byEq v q (λ e. rw e (omega (arith, here, ex, s .small q))) (λ d. omega (arith, there v d, s .small v));
   }
     where
-      here : at (set out q (at out q + 1)) q ≡ at out q + 1
-      here = getD-set-same out q (at out q + 1) 0 (omega (arith, s .long))
+      lq : q < 128
+      lq = omega arith
 
-      there : (v : ℕ) → v ≢ q → at (set out q (at out q + 1)) v ≡ at out v
-      there v d = getD-set-other out q v (at out q + 1) 0 d
+      here : entry (written out k q (x + 1)) k q ≡ x + 1
+      here = write-here out k q (x + 1) lq (omega (arith, s .long))
+
+      there : (v : ℕ) → v ≢ q → entry (written out k q (x + 1)) k v ≡ entry out k v
+      there v d = write-row out k q (x + 1) lq k v d
 
       taken : 1 ≤ q → q ≡ p
       taken l = byLess n p (λ h. absurd (omega (arith, inside-out n p h))) (λ h. omega (arith, inside-in n p h))
@@ -59,13 +60,12 @@ module _ (n : ℕ) (parents : List ℕ) (few : n ≤ 127) where
       passed : (v : ℕ) → v ≤ n → v ≡ p → v ≡ q
       passed v u e = omega (arith, inside-in n p (omega arith))
 
-  pub counted-done : (w : ℕ) (out : List ℕ) → w ≤ n → n ≤ w → Counted n parents w out → set out 0 0 ≡ childCounts n parents
-  unfolding childCounts
-  counted-done w out a b s =
+  pub counted-done : (w : ℕ) (start out : List ℕ) → w ≤ n → n ≤ w → Clear k start → Kept k start out → Counted n f k w out → written out k 0 0 ≡ column k n start (children n f)
+  counted-done w start out a b c o s =
       let e : w ≡ n = omega arith in
-      zeros-ext n (set out 0 0) (children n (at parents)) few (length-set out 0 0 ∙ s .long)
-      (λ v l u. getD-set-other out 0 v 0 0 (λ q. omega arith) ∙ rw e at (s .within v l u))
-      (λ v l. getD-set-other out 0 v 0 0 (λ q. omega arith) ∙ s .past v l)
-      (getD-set-same out 0 0 0 (omega (arith, s .long)))
-
-pub ruleset count-children = (counted-start, counted-turn, counted-done)
+      let l0 : 0 < 128 = omega arith in
+      column-is k n start (written out k 0 0) (children n f) lk (omega arith) (c .long) (long out k 0 0 l0 ∙ s .long)
+      (λ v l u. write-row out k 0 0 l0 k v (λ q. omega arith) ∙ rw e at (s .within v l u))
+      (λ v l. write-row out k 0 0 l0 k v (λ q. omega arith) ∙ s .past v l ∙ sym (c .none v))
+      (write-here out k 0 0 l0 (omega (arith, s .long)) ∙ sym (c .none 0))
+      (record { others = λ j v d. write-column out k 0 0 l0 j v d ∙ o .others j v d })

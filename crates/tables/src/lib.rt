@@ -1,9 +1,15 @@
-// Tables of a table of parents, each in one pass: the lowest child of each number, the next one, and how many it has. Entry v is about v of 1 to n;
-// any entries will do, for what is no number of 1 to n has no children.
+// Tables of named columns in one array, and what one pass over the numbers 1 to n finds in the parents that an array has at equal distances: the
+// lowest child of each number, the next one, and how many it has. Any parents will do, for what is no number of 1 to n has no children.
 ghost use mathlib.Core.Path.{_≡_};
-ghost use Prim.Native.Nat.{_+_, _≤_, _<_};
-ghost use Rattle.finite.specs.Tables.{zeros};
-ghost use Rattle.tables.specs.Children.{firstChildren, secondChildren, childCounts, inside, insideAfter, Counted};
+ghost use mathlib.Core.Logic.{_≢_};
+ghost use Prim.Native.Nat.{_+_, _*_, _≤_, _<_};
+ghost use lib.ListN.{length};
+ghost use Rattle.finite.specs.Range.{children};
+ghost use Rattle.tables.specs.Columns.{entry, written, column, spaced, Clear, Kept};
+ghost use Rattle.tables.specs.Children.{next, inside, insideAfter, Counted};
+
+// Four columns of 128 numbers.
+pub type Table = [u32; 512];
 
 // A number of a table as an index.
 pub fn wide(x: u32) -> usize
@@ -12,7 +18,38 @@ pub fn wide(x: u32) -> usize
     x as usize
 }
 
-// The parent p where it is one of 1 to n, else 0: entry 0 takes what no other entry does, and is cleared at the end.
+// What column k holds for v.
+pub fn get(t: &Table, k: usize, v: usize) -> u32
+    requires { ⌜ (k < 4) × (v ≤ 127) ⌝ }
+    ensures { λ r. ⌜ r ≡ entry (now (t .entry)) k v ⌝ }
+{
+    t[128 * k + v]
+}
+
+// The same as an index.
+pub fn index(t: &Table, k: usize, v: usize) -> usize
+    requires { ⌜ (k < 4) × (v ≤ 127) ⌝ }
+    ensures { λ r. ⌜ r ≡ entry (now (t .entry)) k v ⌝ }
+{
+    wide(get(t, k, v))
+}
+
+pub fn put(t: &mut Table, k: usize, v: usize, x: u32)
+    requires { ⌜ (k < 4) × (v ≤ 127) ⌝ }
+    ensures { λ _. ⌜ now (t .exit) ≡ written (now (t .entry)) k v x ⌝ }
+{
+    t[128 * k + v] = x;
+}
+
+// The number of v among those from b on that are s apart.
+pub fn spaced(t: &[u32], b: usize, s: usize, v: usize) -> usize
+    requires { ⌜ b + s * v < length (now t) ⌝ }
+    ensures { λ r. ⌜ r ≡ spaced (now (t .entry)) b s v ⌝ }
+{
+    wide(t[b + s * v])
+}
+
+// The parent p where it is one of 1 to n, else 0: row 0 takes what no other row does, and is cleared at the end.
 pub fn slot(n: usize, p: usize) -> usize
     ensures { λ r. ⌜ (r ≡ inside n p) × (r ≤ n) ⌝ }
 {
@@ -22,62 +59,52 @@ pub fn slot(n: usize, p: usize) -> usize
     p
 }
 
-// The same where child w is above the entry of p, else 0.
-fn slot_after(n: usize, after: &[u32; 128], p: usize, w: usize) -> usize
-    requires { ⌜ n ≤ 127 ⌝ }
-    ensures { λ r. ⌜ (r ≡ insideAfter n (now (after .entry)) p w) × (r ≤ n) ⌝ }
+// The same where child w is above what column j has for p, else 0.
+fn slot_after(n: usize, t: &Table, j: usize, p: usize, w: usize) -> usize
+    requires { ⌜ (n ≤ 127) × (j < 4) ⌝ }
+    ensures { λ r. ⌜ (r ≡ insideAfter n (entry (now (t .entry)) j) p w) × (r ≤ n) ⌝ }
 {
     let q = slot(n, p);
-    if w <= wide(after[q]) {
+    if w <= index(t, j, q) {
         return 0;
     }
     q
 }
 
-// The lowest child of each that is above its entry in `after`, 0 where there is none: from the highest child down, the last one written is the lowest.
-pub fn second_children(n: usize, parents: &[u32; 128], after: &[u32; 128], out: &mut [u32; 128])
-    requires { ⌜ (n ≤ 127) × (now out ≡ zeros) ⌝ }
-    ensures { λ _. ⌜ now (out .exit) ≡ secondChildren n (now (parents .entry)) (now (after .entry)) ⌝ }
+// In column k the lowest child of each that is above what column j has for it, 0 where there is none; where column j has zeros, the lowest child. From
+// the highest child down, the last one written is the lowest.
+pub fn next_children(n: usize, t: &[u32], b: usize, s: usize, out: &mut Table, j: usize, k: usize)
+    requires { ⌜ (n ≤ 127) × (b + s * n < length (now t)) × (j < 4) × (k < 4) × (j ≢ k) × Clear k (now out) ⌝ }
+    ensures { λ _. ⌜ now (out .exit) ≡ column k n (now (out .entry)) (λ v. next n (spaced (now (t .entry)) b s) (entry (now (out .entry)) j v) v) ⌝ }
 {
     let mut w = n;
     while 0 < w {
-        let p = wide(parents[w]);
-        let q = slot_after(n, after, p, w);
-        out[q] = w as u32;
+        let p = spaced(t, b, s, w);
+        let q = slot_after(n, out, j, p, w);
+        put(out, k, q, w as u32);
         w -= 1;
     }
-    out[0] = 0;
+    put(out, k, 0, 0);
 }
 
-// The lowest child of each, 0 where there is none.
-pub fn first_children(n: usize, parents: &[u32; 128], out: &mut [u32; 128])
-    requires { ⌜ (n ≤ 127) × (now out ≡ zeros) ⌝ }
-    ensures { λ _. ⌜ now (out .exit) ≡ firstChildren n (now (parents .entry)) ⌝ }
+// Child v + 1 counts at its parent in column k, the children up to v being counted.
+pub fn count_next(n: usize, t: &[u32], b: usize, s: usize, v: usize, out: &mut Table, k: usize)
+    requires { ⌜ (n ≤ 127) × (v < n) × (b + s * n < length (now t)) × (k < 4) × Counted n (spaced (now t) b s) k v (now out) ⌝ }
+    ensures { λ _. ⌜ Counted n (spaced (now (t .entry)) b s) k (v + 1) (now (out .exit)) × Kept k (now (out .entry)) (now (out .exit)) ⌝ }
 {
-    let none = [0u32; 128];
-    second_children(n, parents, &none, out);
+    let q = slot(n, spaced(t, b, s, v + 1));
+    put(out, k, q, get(out, k, q) + 1);
 }
 
-// Child v + 1 counts at its parent, the children up to v being counted.
-pub fn count_next(n: usize, parents: &[u32; 128], v: usize, out: &mut [u32; 128])
-    requires { ⌜ (n ≤ 127) × (v < n) ⌝ }
-    requires { ⌜ Counted n (now parents) v (now out) ⌝ }
-    ensures { λ _. ⌜ Counted n (now (parents .entry)) (v + 1) (now (out .exit)) ⌝ }
-{
-    let p = wide(parents[v + 1]);
-    let q = slot(n, p);
-    out[q] = out[q] + 1;
-}
-
-// How many children each has.
-pub fn child_counts(n: usize, parents: &[u32; 128], out: &mut [u32; 128])
-    requires { ⌜ (n ≤ 127) × (now out ≡ zeros) ⌝ }
-    ensures { λ _. ⌜ now (out .exit) ≡ childCounts n (now (parents .entry)) ⌝ }
+// How many children each has, in column k.
+pub fn child_counts(n: usize, t: &[u32], b: usize, s: usize, out: &mut Table, k: usize)
+    requires { ⌜ (n ≤ 127) × (b + s * n < length (now t)) × (k < 4) × Clear k (now out) ⌝ }
+    ensures { λ _. ⌜ now (out .exit) ≡ column k n (now (out .entry)) (children n (spaced (now (t .entry)) b s)) ⌝ }
 {
     let mut v: usize = 0;
     while v < n {
-        count_next(n, parents, v, out);
+        count_next(n, t, b, s, v, out, k);
         v += 1;
     }
-    out[0] = 0;
+    put(out, k, 0, 0);
 }

@@ -1,41 +1,42 @@
--- `gene_tree::verdict` meets its contract. What the two callees tell settles the definition.
+-- `gene_tree::verdict` meets its contract. The work table holds the bearers and the numbers of children.
 -- Assumes nothing.
-use Rattle.finite.specs.Tables.{zeros}
-use Rattle.finite.proofs.Tests.{told-not-yes, told-not-no}
-use Rattle.gene_tree.specs.Refusals.{geneVerdict}
+use mathlib.Core.Path.{refl}
+use Rattle.tables.specs.Columns.{blank}
+use Rattle.gene_tree.proofs.Filling.{counts-noted, bearers-kept}
 use borrow.Author.Needs.{needs}
 use Rattle.gene_tree.proofs.verdict.Statement.{statement}
 use Rattle.gene_tree.proofs.verdict.Tie as tie
 
-child-counts-requires : tie.Need-child-counts-requires
-unfolding zeros
-child-counts-requires c κs = search needs
+note-bearers-requires : tie.Need-note-bearers-requires
+unfolding blank
+note-bearers-requires c κs = (search needs, refl)
 
-tree-fits-requires : tie.Need-tree-fits-requires
-tree-fits-requires c κs = search needs
+mul-child-counts : tie.Need-mul-child-counts
+mul-child-counts c = search needs
+
+add-child-counts : tie.Need-add-child-counts
+add-child-counts c = search needs
+
+child-counts-requires : tie.Need-child-counts-requires
+child-counts-requires c κs = (search needs, search needs, search needs, c .before .before .note-bearers .ensures .1)
+
+from-twelve-requires : tie.Need-from-twelve-requires
+from-twelve-requires c κs =
+    let s = c .before .before .before .before .before .before .pre in
+    let b = c .before .before .before .before .note-bearers .ensures in
+    let e = c .before .child-counts .ensures in
+    (s .0, s .1, counts-noted _ _ _ _ _ (s .1) (b .1) e, bearers-kept _ _ _ _ _ (s .1) (b .1) e _ (b .0))
 
 returns : tie.Need-returns
-unfolding geneVerdict
-returns c = rw (told-not-no _ _ (c .before .tree-fits .ensures) (c .if1 .taken))
-
-seats-fit-requires : tie.Need-seats-fit-requires
-seats-fit-requires c κs = search needs
-
-returns-2 : tie.Need-returns-2
-unfolding geneVerdict
-returns-2 c = rw (told-not-yes _ _ (c .before .before .before .before .tree-fits .ensures) (c .before .before .before .if1 .left), told-not-no _ _ (c .before .seats-fit .ensures) (c .if2 .taken))
-
-returns-3 : tie.Need-returns-3
-unfolding geneVerdict
-returns-3 c = rw (told-not-yes _ _ (c .before .before .before .before .tree-fits .ensures) (c .before .before .before .if1 .left), told-not-yes _ _ (c .before .seats-fit .ensures) (c .if2 .left))
+returns c = search needs
 
 pub verdict-spec : {M : Type 1} → statement M
 verdict-spec =
     tie.close
     (tie.spec
+    note-bearers-requires
+    mul-child-counts
+    add-child-counts
     child-counts-requires
-    tree-fits-requires
-    returns
-    seats-fit-requires
-    returns-2
-    returns-3)
+    from-twelve-requires
+    returns)

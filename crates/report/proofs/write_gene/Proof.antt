@@ -1,6 +1,6 @@
 -- The line of a gene: its five numbers have fields.
 -- Assumes nothing.
-use native.Mathlib.Omega.{arith}
+use Rattle.report.proofs.Writing.{five-as, small-gene}
 use borrow.Author.Needs.{needs}
 use Rattle.report.proofs.write_gene.Statement.{statement}
 use Rattle.report.proofs.write_gene.Tie as tie
@@ -8,56 +8,42 @@ use Rattle.report.proofs.write_gene.Tie as tie
 cast-write-five : tie.Need-cast-write-five
 cast-write-five c = search needs
 
-mul-write-five : tie.Need-mul-write-five
-mul-write-five c = search needs
+place-requires : tie.Need-place-requires
+place-requires c κs = search needs
 
-element-copy-out-write-five : tie.Need-element-copy-out-write-five
-element-copy-out-write-five c = search needs
+cast-write-five-2 : tie.Need-cast-write-five-2
+cast-write-five-2 c = search needs
 
-mul-write-five-2 : tie.Need-mul-write-five-2
-mul-write-five-2 c = search needs
+event-requires : tie.Need-event-requires
+event-requires c κs = search needs
 
-element-copy-out-write-five-2 : tie.Need-element-copy-out-write-five-2
-element-copy-out-write-five-2 c = search needs
+transfers-requires : tie.Need-transfers-requires
+transfers-requires c κs = search needs
 
-mul-write-five-3 : tie.Need-mul-write-five-3
-mul-write-five-3 c = search needs
-
-element-copy-out-write-five-3 : tie.Need-element-copy-out-write-five-3
-element-copy-out-write-five-3 c = search needs
-
-mul-write-five-4 : tie.Need-mul-write-five-4
-mul-write-five-4 c = search needs
-
-element-copy-out-write-five-4 : tie.Need-element-copy-out-write-five-4
-element-copy-out-write-five-4 c = search needs
+losses-requires : tie.Need-losses-requires
+losses-requires c κs = search needs
 
 write-five-requires : tie.Need-write-five-requires
 write-five-requires c κs =
     let s = c .before .before .before .before .before .before in
-    let t = s .pre .2 in
-    let g = s .args .g in
-    (search needs, record { one = omega arith; two = t .place-small .small g; three = t .event-small .small g; four = t .transfers-small .small g; five = t .losses-small .small g })
+    (search needs, small-gene _ _ _ _ _ _ (s .pre .1) (s .pre .2) (c .before .before .before .place .ensures) (c .before .before .event .ensures) (c .before .transfers .ensures) (c .losses .ensures))
 
 same-length : tie.Need-same-length
 same-length c = search needs
 
 returns : tie.Need-returns
-returns c = search needs
+returns c = five-as _ _ _ _ _ _ _ _ _ _ _ _ _ (c .before .before .before .before .before .before .place .ensures) (c .before .before .before .before .before .event .ensures) (c .before .before .before .before .transfers .ensures) (c .before .before .before .losses .ensures) (c .before .before .write-five .ensures)
 
 pub write-gene-spec : {M : Type 1} → statement M
 write-gene-spec =
     tie.close
     (tie.spec
     cast-write-five
-    mul-write-five
-    element-copy-out-write-five
-    mul-write-five-2
-    element-copy-out-write-five-2
-    mul-write-five-3
-    element-copy-out-write-five-3
-    mul-write-five-4
-    element-copy-out-write-five-4
+    place-requires
+    cast-write-five-2
+    event-requires
+    transfers-requires
+    losses-requires
     write-five-requires
     same-length
     returns)

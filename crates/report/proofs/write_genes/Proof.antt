@@ -4,18 +4,18 @@ use Prim.Native.Nat.{_+_, _-_, _≤_}
 use mathlib.Core.Path.{_≡_, refl}
 use native.Mathlib.Omega.{arith}
 use lib.ListN.{length}
-use Rattle.finite.specs.Tables.{at}
-use Rattle.report.specs.Reports.{always, geneFields, Lines}
+use Rattle.report.specs.Reports.{always, Extended}
+use Rattle.report.specs.Tables.{geneNumbers}
 use Rattle.report.proofs.Writing.{lines-start, lines-turn, lines-done, lines-room, lines-length, room-always}
 use borrow.Author.Needs.{needs}
 use Rattle.report.proofs.write_genes.Statement.{statement}
 use Rattle.report.proofs.write_genes.Tie as tie
 
 abbrev Inv-loop : tie.InvT-loop
-Inv-loop result₀ start m place event transfers losses next₀ g₀ result next g = (g ≤ m) × (length result ≡ length result₀) × Lines result₀ result start next always (geneFields (at place) (at event) (at transfers) (at losses)) g
+Inv-loop result₀ start m results next₀ g₀ result next g = (g ≤ m) × (length result ≡ length result₀) × Extended result₀ result start next always (geneNumbers results) g
 
 abbrev μ-loop : tie.MeasureT-loop
-μ-loop result₀ start m place event transfers losses next₀ g₀ result next g = m - g
+μ-loop result₀ start m results next₀ g₀ result next g = m - g
 
 loop-holds : tie.Need-loop-holds Inv-loop μ-loop
 loop-holds c = (search needs, refl, lines-start _ _ _ _)
@@ -27,7 +27,7 @@ write-gene-requires : tie.Need-write-gene-requires Inv-loop μ-loop
 write-gene-requires c κs =
     let l = c .before .before .loop in
     let s = c .before .before .before .before in
-    (omega (arith, lines-room _ _ _ _ (s .args .start) (l .next) (l .g) (s .args .m) (search needs) (room-always _ _ _ (s .pre .2)) (l .inv .2)), omega arith, s .pre .1)
+    (omega (arith, lines-room _ _ _ _ (s .args .start) (l .next) (l .g) (s .args .m) (search needs) (room-always _ _ _ (s .pre .2)) (l .inv .2)), omega arith, s .pre .1 .each (l .g + 1) (omega arith) (omega arith))
 
 loop-less : tie.Need-loop-less Inv-loop μ-loop
 loop-less c = search needs

@@ -8,20 +8,20 @@ use Rattle.report.proofs.write_report.Statement.{statement}
 use Rattle.report.proofs.write_report.Tie as tie
 
 write-totals-requires : tie.Need-write-totals-requires
-write-totals-requires c κs = let p = c .before .before .pre in (totals-room _ _ _ _ (p .5), p .2)
+write-totals-requires c κs = let p = c .before .before .pre in (totals-room _ _ _ _ (p .1), p .0 .2)
 
 write-reticulations-requires : tie.Need-write-reticulations-requires
 write-reticulations-requires c κs =
     let p = c .before .before .before .before .before .before .pre in
     let w = c .before .before .before .write-totals in
-    (p .0, p .3, nodes-room _ _ _ _ _ _ (p .5) (w .ensures .1) (w .kept .0))
+    (p .0 .0, p .0 .3, nodes-room _ _ _ _ _ _ (p .1) (w .ensures .1) (w .kept .0))
 
 write-genes-requires : tie.Need-write-genes-requires
 write-genes-requires c κs =
     let p = c .before .before .before .before .before .before .before .before .before .before .pre in
     let w = c .before .before .before .before .before .before .before .write-totals in
     let v = c .before .before .before .write-reticulations in
-    (p .1, p .4, genes-room _ _ _ _ _ _ _ (p .5) (w .ensures .1) (v .ensures .after) (v .kept .0 ∙ w .kept .0))
+    (p .0 .1, p .0 .4, genes-room _ _ _ _ _ _ _ (p .1) (w .ensures .1) (v .ensures .after) (v .kept .0 ∙ w .kept .0))
 
 same-length : tie.Need-same-length
 same-length c = search needs

@@ -1,67 +1,56 @@
--- The line of a reticulation: its five numbers have fields, and the top that was read is an entry of the table.
+-- The line of a reticulation: its five numbers have fields, and the top that was read has a row.
 -- Assumes nothing.
-use native.Mathlib.Omega.{arith}
+use Rattle.report.proofs.Writing.{five-as, small-node, count-at}
 use borrow.Author.Needs.{needs}
 use Rattle.report.proofs.write_reticulation.Statement.{statement}
 use Rattle.report.proofs.write_reticulation.Tie as tie
 
-mul-t : tie.Need-mul-t
-mul-t c = search needs
+top-requires : tie.Need-top-requires
+top-requires c κs = search needs
 
-element-copy-out-t : tie.Need-element-copy-out-t
-element-copy-out-t c = search needs
+up-requires : tie.Need-up-requires
+up-requires c κs = search needs
 
-wide-requires : tie.Need-wide-requires
-wide-requires c κs = search needs
-
-mul-h : tie.Need-mul-h
-mul-h c = omega (arith, c .before .before .before .pre .2 .top-node (c .before .before .before .args .v))
-
-element-copy-out-h : tie.Need-element-copy-out-h
-element-copy-out-h c = omega (arith, c .before .before .before .pre .2 .top-node (c .before .before .before .args .v))
+cast-taken : tie.Need-cast-taken
+cast-taken c = search needs
 
 cast-write-five : tie.Need-cast-write-five
 cast-write-five c = search needs
 
-mul-write-five : tie.Need-mul-write-five
-mul-write-five c = search needs
+lateral-requires : tie.Need-lateral-requires
+lateral-requires c κs = search needs
 
-element-copy-out-write-five : tie.Need-element-copy-out-write-five
-element-copy-out-write-five c = search needs
+cast-write-five-2 : tie.Need-cast-write-five-2
+cast-write-five-2 c = search needs
 
-mul-write-five-2 : tie.Need-mul-write-five-2
-mul-write-five-2 c = search needs
-
-element-copy-out-write-five-2 : tie.Need-element-copy-out-write-five-2
-element-copy-out-write-five-2 c = search needs
+reticulation-count-requires : tie.Need-reticulation-count-requires
+reticulation-count-requires c κs = search needs
 
 write-five-requires : tie.Need-write-five-requires
 write-five-requires c κs =
-    let s = c .before .before .before .before .before .before .before in
-    let t = s .pre .2 in
-    let v = s .args .v in
-    (search needs, record { one = omega arith; two = t .taken-small .small v; three = t .second-small .small v; four = omega (arith, t .top-node v); five = t .held-small .small _ })
+    let s = c .before .before .before .before .before .before in
+    let t = c .before .before .before .before .top .ensures in
+    (search needs, small-node _ _ _ _ _ _ _ (s .pre .1) (s .pre .2) (c .before .before .before .up .ensures) (c .before .lateral .ensures) t (count-at _ _ _ _ t (c .reticulation-count .ensures)))
 
 same-length : tie.Need-same-length
 same-length c = search needs
 
 returns : tie.Need-returns
-returns c = rw (c .before .before .before .before .before .before .before .wide .ensures) at (c .before .before .write-five .ensures)
+returns c =
+    let t = c .before .before .before .before .before .before .before .top .ensures in
+    five-as _ _ _ _ _ _ _ _ _ _ _ _ _ (c .before .before .before .before .before .before .up .ensures) (c .before .before .before .before .lateral .ensures) t (count-at _ _ _ _ t (c .before .before .before .reticulation-count .ensures)) (c .before .before .write-five .ensures)
 
 pub write-reticulation-spec : {M : Type 1} → statement M
 write-reticulation-spec =
     tie.close
     (tie.spec
-    mul-t
-    element-copy-out-t
-    wide-requires
-    mul-h
-    element-copy-out-h
+    top-requires
+    up-requires
+    cast-taken
     cast-write-five
-    mul-write-five
-    element-copy-out-write-five
-    mul-write-five-2
-    element-copy-out-write-five-2
+    lateral-requires
+    cast-write-five-2
+    reticulation-count-requires
     write-five-requires
     same-length
     returns)

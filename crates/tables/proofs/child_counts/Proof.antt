@@ -1,20 +1,23 @@
--- `tables::child_counts` meets its contract. The invariant: each entry of 1 to n counts the children passed.
+-- `tables::child_counts` meets its contract. The invariant: each row of 1 to n counts the children passed, and the other columns are as they were.
 -- Assumes nothing.
 use Prim.Native.Nat.{_-_, _≤_}
+use mathlib.Core.Path.{_∙_}
+use Rattle.tables.specs.Columns.{spaced, Kept}
 use Rattle.tables.specs.Children.{Counted}
-use Rattle.tables.proofs.Counts.{counted-start, count-children}
+use Rattle.tables.proofs.Columns.{kept-none, kept-then}
+use Rattle.tables.proofs.Counts.{counted-start, counted-done}
 use borrow.Author.Needs.{needs}
 use Rattle.tables.proofs.child_counts.Statement.{statement}
 use Rattle.tables.proofs.child_counts.Tie as tie
 
 abbrev Inv-loop : tie.InvT-loop
-Inv-loop n parents out₀ v₀ out v = (v ≤ n) × Counted n parents v out
+Inv-loop n t b s out₀ k v₀ out v = (v ≤ n) × Counted n (spaced t b s) k v out × Kept k out₀ out
 
 abbrev μ-loop : tie.MeasureT-loop
-μ-loop n parents out₀ v₀ out v = n - v
+μ-loop n t b s out₀ k v₀ out v = n - v
 
 loop-holds : tie.Need-loop-holds Inv-loop μ-loop
-loop-holds c = (search needs, rw (c .pre .1) (counted-start _ _ (c .pre .0)))
+loop-holds c = let s = c .before .pre in (search needs, counted-start _ _ _ (s .0) (s .2) _ (s .3), kept-none _ _)
 
 count-next-requires : tie.Need-count-next-requires Inv-loop μ-loop
 count-next-requires c κs = search needs
@@ -26,13 +29,16 @@ loop-less : tie.Need-loop-less Inv-loop μ-loop
 loop-less c = search needs
 
 loop-again : tie.Need-loop-again Inv-loop μ-loop
-loop-again c = search needs
+loop-again c = (search needs, c .count-next .ensures .0, kept-then _ _ _ _ (c .before .before .before .loop .inv .2) (c .count-next .ensures .1))
 
-element-write-out : tie.Need-element-write-out Inv-loop μ-loop
-element-write-out c = search needs
+put-requires : tie.Need-put-requires Inv-loop μ-loop
+put-requires c κs = search needs
 
 returns : tie.Need-returns Inv-loop μ-loop
-returns c = search (needs, count-children)
+returns c =
+    let s = c .before .before .before .before .before .pre in
+    let i = c .before .before .before .loop .inv in
+    c .put .ensures ∙ counted-done _ _ _ (s .0) (s .2) _ _ _ (i .0) (search needs) (s .3) (i .2) (i .1)
 
 pub child-counts-spec : {M : Type 1} → statement M
 child-counts-spec =
@@ -45,5 +51,5 @@ child-counts-spec =
     add-v
     loop-less
     loop-again
-    element-write-out
+    put-requires
     returns)

@@ -1,56 +1,41 @@
--- `tables::count_next` meets its contract. One turn of the count: the entry of the child's parent grows by 1.
+-- `tables::count_next` meets its contract. One turn of the count: the row of the child's parent grows by 1.
 -- Assumes nothing.
 use native.Mathlib.Omega.{arith}
-use borrow.Author.Needs.{needs}
+use Rattle.tables.proofs.Columns.{spaced-in, kept-write}
 use Rattle.tables.proofs.Counts.{counted-turn}
+use borrow.Author.Needs.{needs}
 use Rattle.tables.proofs.count_next.Statement.{statement}
 use Rattle.tables.proofs.count_next.Tie as tie
 
-add-wide : tie.Need-add-wide
-add-wide c = search needs
+add-spaced : tie.Need-add-spaced
+add-spaced c = search needs
 
-mul-wide : tie.Need-mul-wide
-mul-wide c = search needs
-
-element-copy-out-wide : tie.Need-element-copy-out-wide
-element-copy-out-wide c = search needs
-
-wide-requires : tie.Need-wide-requires
-wide-requires c κs = search needs
+spaced-requires : tie.Need-spaced-requires
+spaced-requires c κs = spaced-in _ _ _ _ _ (omega arith) (c .before .pre .2)
 
 slot-requires : tie.Need-slot-requires
 slot-requires c κs = search needs
 
-mul-out : tie.Need-mul-out
-mul-out c = search needs
+get-requires : tie.Need-get-requires
+get-requires c κs = search needs
 
-element-copy-out-out : tie.Need-element-copy-out-out
-element-copy-out-out c = search needs
+add-put : tie.Need-add-put
+add-put c = omega (arith, c .get .ensures, c .before .before .before .before .before .before .pre .4 .small (c .before .before .before .slot .result))
 
-add-out : tie.Need-add-out
-add-out c = omega (arith, c .before .before .before .before .pre .1 .small (c .before .slot .result))
-
-mul-out-2 : tie.Need-mul-out-2
-mul-out-2 c = search needs
-
-element-write-out : tie.Need-element-write-out
-element-write-out c = search needs
+put-requires : tie.Need-put-requires
+put-requires c κs = search needs
 
 returns : tie.Need-returns
-returns c = let s = c .before .before .before .before .pre in counted-turn _ _ (s .0 .0) _ _ _ _ (s .0 .1) (c .before .before .wide .ensures) (c .before .slot .ensures .0) (c .before .slot .ensures .1) (s .1)
+returns c =
+    let s = c .before .before .before .before .before .before .before .pre in
+    let q = c .before .before .before .before .slot .ensures in
+    let e = c .put .ensures in
+    rw e (
+      counted-turn _ _ _ (s .0) (s .3) _ _ _ _ _ (s .1) (c .before .before .before .before .before .spaced .ensures) (q .0) (q .1) (c .before .get .ensures) (s .4),
+      kept-write _ _ _ _ (omega arith),
+    )
 
 pub count-next-spec : {M : Type 1} → statement M
 count-next-spec =
     tie.close
-    (tie.spec
-    add-wide
-    mul-wide
-    element-copy-out-wide
-    wide-requires
-    slot-requires
-    mul-out
-    element-copy-out-out
-    add-out
-    mul-out-2
-    element-write-out
-    returns)
+    (tie.spec add-spaced spaced-requires slot-requires get-requires add-put put-requires returns)

@@ -1,0 +1,7 @@
+pub mod Lines
+pub mod Parts
+pub mod Choices
+pub mod Tree
+pub mod Genes
+pub mod Results
+pub mod Headers
