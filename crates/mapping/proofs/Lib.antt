@@ -1,9 +1,4 @@
-pub mod Climbs
-pub mod ArcsOut
-pub mod Placing
-pub mod Mapped
-pub mod Adding
-pub mod Held
-pub mod Trials
 pub mod Meeting
-pub mod Charges
+pub mod Fields
+pub mod Pairing
+pub mod Evaluating

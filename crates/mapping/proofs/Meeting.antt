@@ -1,133 +1,181 @@
--- The turns of the loop in which two climbers meet and add up weights: what is added and what lies ahead of both make up their two ways. The climber
--- that moves is not at the meeting node yet, for the other one is below that node and would stand lower.
+-- The turns of the loop in which two climbers meet, over the table. What the climbers have added up and what lies ahead of them make up their whole ways,
+-- so that nothing added up is more than a whole way, which has no more arcs than there are nodes.
 -- Assumes nothing.
 use mathlib.Core.Path.{_≡_, refl, sym, _∙_, ap}
-use mathlib.Core.Bool.{true, cond}
+use mathlib.Core.Logic.{_≢_}
+use mathlib.Core.Bool.{true}
 use mathlib.Core.List.{List}
 use Prim.Native.Nat.{ℕ, _+_, _*_, _≤_, _<_}
 use native.Mathlib.Omega.{arith}
-use Rattle.finite.specs.Range.{sum}
-use Rattle.finite.specs.Tables.{at}
-use Rattle.finite.proofs.Cases.{byBool, byEq}
-use Rattle.finite.proofs.Sum.{sum-bound}
-use Rattle.topology.specs.Networks.{Network}
-use Rattle.topology.specs.Switchings.{parent, lca, above}
-use Rattle.topology.specs.Switchings as S
-use Rattle.topology.proofs.Above.{falls, above-low}
-use Rattle.topology.proofs.Climbing.{along-stop, along-go, along-over}
-use Rattle.reconciliation.proofs.Ways.{onWay, along-sum}
-use Rattle.mapping.specs.Switched.{switchedOf, taken, Switched, Below}
-use Rattle.mapping.specs.Genes.{wayOf}
-use Rattle.mapping.specs.Charges.{Weights, Meeting}
-use Rattle.mapping.proofs.Climbs.{parent-is, height-is, up-in, step-left, step-right, met, less-left, less-right}
+use Rattle.finite.specs.Tests.{same, tally}
+use Rattle.finite.proofs.Tests.{tally-le}
+use Rattle.topology.proofs.Climbing.{meet-over-left, meet-over-right}
+use Rattle.layout.specs.Tree.{up, lateral, rank, arcs}
+use Rattle.displayed.specs.Displayed.{Displayed, NodeOf, Tree, reaches, common, way, departure}
+use Rattle.displayed.specs.Arcs.{move, mark}
+use Rattle.displayed.specs.Tabled.{treeIn}
+use Rattle.displayed.proofs.Trees.{common-node}
+use Rattle.displayed.proofs.Ways.{way-le}
+use Rattle.displayed.proofs.Tabled.{read-up, read-rank, read-lateral, read-forks}
+use Rattle.displayed.proofs.Meeting as M
+use Rattle.mapping.specs.Climbs.{forkIn, treeOf, Climbable, Light, climbedBy, IsWay, Meeting}
+use Rattle.mapping.specs.declared.Way.{Way}
+use Rattle.mapping.specs.declared.Met.{Met}
 
--- the climbers of x and y stand at a and b, and r is added up
-pub record Climb (n : ℕ) (up on height weight : List ℕ) (x y a b r : ℕ) : Type 0 where
-  pub in-left : a ≤ n
-  pub in-right : b ≤ n
-  pub meets : lca (switchedOf n up on height) taken x y ≡ lca (switchedOf n up on height) taken a b
-  pub over-left : above (switchedOf n up on height) taken (lca (switchedOf n up on height) taken x y) a ≡ true
-  pub over-right : above (switchedOf n up on height) taken (lca (switchedOf n up on height) taken x y) b ≡ true
-  pub sum : r + wayOf n up on height weight (lca (switchedOf n up on height) taken x y) a + wayOf n up on height weight (lca (switchedOf n up on height) taken x y) b
-      ≡ wayOf n up on height weight (lca (switchedOf n up on height) taken x y) x + wayOf n up on height weight (lca (switchedOf n up on height) taken x y) y
-  pub small : wayOf n up on height weight (lca (switchedOf n up on height) taken x y) x + wayOf n up on height weight (lca (switchedOf n up on height) taken x y) y ≤ 60000
+pub fork-le : (t : List ℕ) (v : ℕ) → forkIn t v ≤ 1
+unfolding forkIn
+fork-le t v = tally-le (same (arcs t v) 2)
 
-module _ (n : ℕ) (up on height weight : List ℕ) (T : Switched n up on height) where
-  abbrev N : Network
-  N = switchedOf n up on height
+-- no arc is climbed yet
+abbrev pub still : Way
+still = record { transfers = 0; losses = 0; last = 0 }
 
-  -- a way has no more nodes than the network
-  way-low : Weights weight → (b x : ℕ) → Below n up on height b x → wayOf n up on height weight b x ≤ 127 * 198
-  unfolding wayOf switchedOf
-  way-low W b x B = omega (
-    arith,
-    T .few,
-    along-sum N (T .sound) taken (at weight) b (B .upper) x (B .lower) (B .over),
-    sum-bound n 198 (λ v. cond (onWay N taken b x v) (at weight v) 0) (λ v _ _. byBool (onWay N taken b x v) (λ t. rw t (W .low v)) (λ t. rw t (omega arith))),
-  )
+-- the climbers of x and y stand at a and b
+pub record Climbing (T : Displayed) (x y a b : ℕ) (l r : Way) : Type 0 where
+  pub climbs : M.Climb T x y a b (l .last) (r .last)
+  pub left-transfers : l .transfers + way T (move T) (common T x y) a ≡ way T (move T) (common T x y) x
+  pub left-losses : l .losses + way T (mark T) (common T x y) a ≡ way T (mark T) (common T x y) x
+  pub right-transfers : r .transfers + way T (move T) (common T x y) b ≡ way T (move T) (common T x y) y
+  pub right-losses : r .losses + way T (mark T) (common T x y) b ≡ way T (mark T) (common T x y) y
 
-  -- the weight of the way from a is the weight of a, then that of the way from its parent
-  pub way-go : (l a : ℕ) → above N taken l a ≡ true → (a ≡ l → ⊥) → wayOf n up on height weight l a ≡ at weight a + wayOf n up on height weight l (at up a)
-  unfolding wayOf above
-  way-go l a t d = rw (← parent-is n up on height a) (along-go (S.height N) (parent N taken) (falls N (T .sound) taken) (at weight) l a t d)
+-- what the table tells at a node
+module _ (n : ℕ) (t : List ℕ) (K : Climbable n t) (a : ℕ) (k : NodeOf (treeOf n t) a) where
+  pub node-low : 1 ≤ a
+  node-low = k .low
 
-  over-go : (l a v : ℕ) → above N taken l a ≡ true → (a ≡ l → ⊥) → v ≡ at up a → above N taken l v ≡ true
-  unfolding above
-  over-go l a v t d e = rw (e, ← parent-is n up on height a) (along-over (S.height N) (parent N taken) (falls N (T .sound) taken) (at weight) l a t d)
+  pub node-high : a ≤ n
+  unfolding treeOf treeIn
+  node-high = k .high
 
-  pub way-none : (l a : ℕ) → a ≡ l → wayOf n up on height weight l a ≡ 0
-  unfolding wayOf
-  way-none l a e = along-stop (S.height N) (parent N taken) (falls N (T .sound) taken) (at weight) l a e
+  pub up-is : treeOf n t .up a ≡ up t a
+  unfolding treeOf
+  up-is = read-up n (up t) (rank t) (lateral t) (forkIn t) a node-low node-high
 
-  module _ (x y : ℕ) where
-    abbrev L : ℕ
-    L = lca N taken x y
+  pub rank-is : treeOf n t .rank a ≡ rank t a
+  unfolding treeOf
+  rank-is = read-rank n (up t) (rank t) (lateral t) (forkIn t) a node-low (K .ranks a node-low node-high)
 
-    pub meet-start : Weights weight → Below n up on height L x → Below n up on height L y → Climb n up on height weight x y x y 0
-    unfolding switchedOf
-    meet-start W A B = record {
-      in-left = A .lower .high;
-      in-right = B .lower .high;
-      meets = refl;
-      over-left = A .over;
-      over-right = B .over;
-      sum = omega arith;
-      small = omega (arith, way-low W L x A, way-low W L y B);
+  pub move-is : lateral t a ≡ move (treeOf n t) a
+  unfolding treeOf
+  move-is = sym (read-lateral n (up t) (rank t) (lateral t) (forkIn t) a (K .laterals a))
+
+  pub mark-is : forkIn t (up t a) ≡ mark (treeOf n t) a
+  unfolding treeOf
+  mark-is = sym (ap (λ (v : ℕ). tally (treeOf n t .forks v)) up-is ∙ read-forks n (up t) (rank t) (lateral t) (forkIn t) (up t a) (fork-le t (up t a)))
+
+  pub node-few : (a ≤ 127) × (up t a ≤ 127) × (lateral t a ≤ 1)
+  node-few = (omega (arith, node-high, K .few), omega (arith, K .ups a, K .few), K .laterals a)
+
+module _ (n : ℕ) (t : List ℕ) (K : Climbable n t) (x y : ℕ) (kx : NodeOf (treeOf n t) x) (ky : NodeOf (treeOf n t) y) where
+  abbrev T : Displayed
+  T = treeOf n t
+
+  ok : Tree T
+  ok = K .tree
+
+  pub climbing-start : Climbing T x y x y still still
+  climbing-start = record {
+    climbs = M.meet-start T ok x y kx ky;
+    left-transfers = omega arith;
+    left-losses = omega arith;
+    right-transfers = omega arith;
+    right-losses = omega arith;
+  }
+
+  -- a whole way has at most n transfers and n losses
+  meeting : NodeOf T (common T x y)
+  meeting = common-node T ok x y kx ky
+
+  size-few : T .size ≤ 127
+  unfolding treeOf treeIn
+  size-few = K .few
+
+  way-few : (f : ℕ → ℕ) (z : ℕ) → NodeOf T z → reaches T (common T x y) z ≡ true → ((c : ℕ) → f c ≤ 1) → way T f (common T x y) z ≤ 127
+  way-few f z k o l = omega (arith, way-le T ok f 1 (common T x y) z meeting k o (λ c _. l c), size-few)
+
+  left-few : (f : ℕ → ℕ) → ((c : ℕ) → f c ≤ 1) → way T f (common T x y) x ≤ 127
+  left-few f l = way-few f x kx (meet-over-left (T .rank) (T .up) (ok .falls) x y) l
+
+  right-few : (f : ℕ → ℕ) → ((c : ℕ) → f c ≤ 1) → way T f (common T x y) y ≤ 127
+  right-few f l = way-few f y ky (meet-over-right (T .rank) (T .up) (ok .falls) x y) l
+
+  move-le : (c : ℕ) → move T c ≤ 1
+  move-le c = tally-le (T .lateral c)
+
+  mark-le : (c : ℕ) → mark T c ≤ 1
+  mark-le c = tally-le (T .forks (T .up c))
+
+  module _ (a b : ℕ) (l r : Way) (c : Climbing T x y a b l r) where
+    ka : NodeOf T a
+    ka = c .climbs .left .node
+
+    kb : NodeOf T b
+    kb = c .climbs .right .node
+
+    pub left-node : NodeOf T a
+    left-node = ka
+
+    pub right-node : NodeOf T b
+    right-node = kb
+
+    pub left-light : Light l
+    left-light = record { transfers = omega (arith, c .left-transfers, left-few (move T) move-le); losses = omega (arith, c .left-losses, left-few (mark T) mark-le) }
+
+    pub right-light : Light r
+    right-light = record { transfers = omega (arith, c .right-transfers, right-few (move T) move-le); losses = omega (arith, c .right-losses, right-few (mark T) mark-le) }
+
+    -- the ranks of the table, as the loop reads them
+    ranks : (p q : ℕ) → p ≡ rank t a → q ≡ rank t b → (T .rank a ≡ p) × (T .rank b ≡ q)
+    ranks p q ep eq = (rank-is n t K a ka ∙ sym ep, rank-is n t K b kb ∙ sym eq)
+
+    module _ (p q v : ℕ) (ep : p ≡ rank t a) (eq : q ≡ rank t b) where
+      low : q ≤ p → T .rank b ≤ T .rank a
+      low h = omega (arith, ranks p q ep eq .0, ranks p q ep eq .1)
+
+      high : p < q → T .rank a < T .rank b
+      high h = omega (arith, ranks p q ep eq .0, ranks p q ep eq .1)
+
+      pub climbing-left : (w : Way) → q ≤ p → a ≢ b → w ≡ climbedBy t l a → v ≡ up t a → Climbing T x y v b w r
+      unfolding climbedBy
+      climbing-left w h d e ev =
+          let ew : v ≡ T .up a = ev ∙ sym (up-is n t K a ka) in
+          rw e (record {
+            climbs = M.turn-left T ok x y a b (l .last) (r .last) kx ky (c .climbs) v (low h) d ew;
+            left-transfers = M.sum-left T ok x y a b (l .last) (r .last) kx ky (c .climbs) (move T) (l .transfers) _ _ v (c .left-transfers) (low h) d (move-is n t K a ka) ew;
+            left-losses = M.sum-left T ok x y a b (l .last) (r .last) kx ky (c .climbs) (mark T) (l .losses) _ _ v (c .left-losses) (low h) d (mark-is n t K a ka) ew;
+            right-transfers = c .right-transfers;
+            right-losses = c .right-losses;
+          })
+
+      pub climbing-right : (w : Way) → p < q → w ≡ climbedBy t r b → v ≡ up t b → Climbing T x y a v l w
+      unfolding climbedBy
+      climbing-right w h e ev =
+          let ew : v ≡ T .up b = ev ∙ sym (up-is n t K b kb) in
+          rw e (record {
+            climbs = M.turn-right T ok x y a b (l .last) (r .last) kx ky (c .climbs) v (high h) ew;
+            left-transfers = c .left-transfers;
+            left-losses = c .left-losses;
+            right-transfers = M.sum-right T ok x y a b (l .last) (r .last) kx ky (c .climbs) (move T) (r .transfers) _ _ v (c .right-transfers) (high h) (move-is n t K b kb) ew;
+            right-losses = M.sum-right T ok x y a b (l .last) (r .last) kx ky (c .climbs) (mark T) (r .losses) _ _ v (c .right-losses) (high h) (mark-is n t K b kb) ew;
+          })
+
+      pub falls-left : q ≤ p → a ≢ b → v ≡ up t a → T .rank v + T .rank b < T .rank a + T .rank b
+      falls-left h d ev = M.less-left T ok x y a b (l .last) (r .last) kx ky (c .climbs) v (low h) d (ev ∙ sym (up-is n t K a ka))
+
+      pub falls-right : p < q → v ≡ up t b → T .rank a + T .rank v < T .rank a + T .rank b
+      falls-right h ev = M.less-right T ok x y a b (l .last) (r .last) kx ky (c .climbs) v (high h) (ev ∙ sym (up-is n t K b kb))
+
+    pub climbing-done : a ≡ b → Meeting T x y (record { node = a; left = l; right = r })
+    climbing-done e = record {
+      node = M.done-node T ok x y a b (l .last) (r .last) kx ky (c .climbs) e;
+      left = record {
+        transfers = M.sum-left-done T ok x y a b (l .last) (r .last) kx ky (c .climbs) (move T) (l .transfers) _ e (c .left-transfers);
+        losses = M.sum-left-done T ok x y a b (l .last) (r .last) kx ky (c .climbs) (mark T) (l .losses) _ e (c .left-losses);
+        last = M.done-left T ok x y a b (l .last) (r .last) kx ky (c .climbs) e;
+      };
+      right = record {
+        transfers = M.sum-right-done T ok x y a b (l .last) (r .last) kx ky (c .climbs) (move T) (r .transfers) _ e (c .right-transfers);
+        losses = M.sum-right-done T ok x y a b (l .last) (r .last) kx ky (c .climbs) (mark T) (r .losses) _ e (c .right-losses);
+        last = M.done-right T ok x y a b (l .last) (r .last) kx ky (c .climbs) e;
+      };
     }
-
-    module _ (a b r : ℕ) (c : Climb n up on height weight x y a b r) where
-      -- a climber that stands no higher than the other is not where they meet
-      left-apart : at height b ≤ at height a → (a ≡ b → ⊥) → a ≡ L → ⊥
-      left-apart l d e = omega (
-        arith,
-        above-low N (T .sound) taken L b (c .over-right) (λ q. d (e ∙ q)),
-        ap (S.height N) e,
-        height-is n up on height T a (c .in-left),
-        height-is n up on height T b (c .in-right),
-      )
-
-      right-apart : at height a < at height b → b ≡ L → ⊥
-      right-apart l e = byEq L a
-          (λ q. omega (arith, ap (at height) (e ∙ q)))
-          (λ q. omega (arith, above-low N (T .sound) taken L a (c .over-left) q, ap (S.height N) e, height-is n up on height T a (c .in-left), height-is n up on height T b (c .in-right)))
-
-      pub fits-left : at height b ≤ at height a → (a ≡ b → ⊥) → r + at weight a ≤ 60000
-      fits-left l d = omega (arith, way-go L a (c .over-left) (left-apart l d), c .sum, c .small)
-
-      pub fits-right : at height a < at height b → r + at weight b ≤ 60000
-      fits-right l = omega (arith, way-go L b (c .over-right) (right-apart l), c .sum, c .small)
-
-      pub turn-left : (v : ℕ) → at height b ≤ at height a → (a ≡ b → ⊥) → v ≡ at up a → Climb n up on height weight x y v b (r + at weight a)
-      turn-left v l d e = record {
-        in-left = up-in n up on height T a v (c .in-left) e;
-        in-right = c .in-right;
-        meets = step-left n up on height T x y a b v (c .meets) (c .in-left) (c .in-right) l d e;
-        over-left = over-go L a v (c .over-left) (left-apart l d) e;
-        over-right = c .over-right;
-        sum = rw e (omega (arith, way-go L a (c .over-left) (left-apart l d), c .sum));
-        small = c .small;
-      }
-
-      pub turn-right : (v : ℕ) → at height a < at height b → v ≡ at up b → Climb n up on height weight x y a v (r + at weight b)
-      turn-right v l e = record {
-        in-left = c .in-left;
-        in-right = up-in n up on height T b v (c .in-right) e;
-        meets = step-right n up on height T x y a b v (c .meets) (c .in-left) (c .in-right) l e;
-        over-left = c .over-left;
-        over-right = over-go L b v (c .over-right) (right-apart l) e;
-        sum = rw e (omega (arith, way-go L b (c .over-right) (right-apart l), c .sum));
-        small = c .small;
-      }
-
-      pub less-by-left : (v : ℕ) → at height b ≤ at height a → (a ≡ b → ⊥) → v ≡ at up a → S.height N v + S.height N b < S.height N a + S.height N b
-      less-by-left v l d e = less-left n up on height T a b v (c .in-left) (c .in-right) l d e
-
-      pub less-by-right : (v : ℕ) → at height a < at height b → v ≡ at up b → S.height N a + S.height N v < S.height N a + S.height N b
-      less-by-right v l e = less-right n up on height T a b v (c .in-left) (c .in-right) l e
-
-      pub meet-done : a ≡ b → Meeting n up on height weight x y a r
-      meet-done e =
-          let q : a ≡ L = met n up on height T x y a b (c .meets) e in
-          record { meets = q; weighs = omega (arith, c .sum, way-none L a q, way-none L b (sym e ∙ q)); small = omega (arith, c .sum, c .small) }
-
-pub ruleset weigh-loop = (meet-start, turn-left, turn-right, less-by-left, less-by-right, meet-done)

@@ -1,6 +1,3 @@
-pub mod Switched
-pub mod Settings
-pub mod Genes
-pub mod Score
-pub mod Charges
-pub mod Evaluated
+pub mod Climbs
+pub mod Pairs
+pub mod Evaluation

@@ -1,4 +1,4 @@
-pub mod Preparing
+pub mod Assembling
 pub mod Steps
-pub mod Reporting
-pub mod Findings
+pub mod Turns
+pub mod Settled

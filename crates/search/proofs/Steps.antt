@@ -1,163 +1,170 @@
--- The turns of the search's loops. A step does to the table of bests and the count what the machine's step does; the cached least cost says what the
--- machine would find by evaluating the best again.
+-- The turns of the search's loops. A step does to the column of bests and the count what the machine's step does; the least cost kept says what the machine
+-- would find by evaluating the best again.
 -- Assumes nothing.
-use mathlib.Core.Path.{_≡_, refl, sym, _∙_, ap}
+use mathlib.Core.Path.{_≡_, refl, sym, _∙_, ap, fun-ext}
+use mathlib.Core.Logic.{_≢_}
+use mathlib.Core.Bool.{Bool, true, false}
 use mathlib.Core.List.{List}
 use Prim.Native.Nat.{ℕ, suc, _+_, _≤_, _<_}
 use native.Mathlib.Numerals.{add-one}
 use native.Mathlib.Omega.{arith}
-use lib.ListN.{length, set, length-set}
-use lib.Seq.{getD-set-same}
+use lib.ListN.{length}
 use Rattle.finite.specs.Tests.{under}
 use Rattle.finite.specs.Range.{sum}
-use Rattle.finite.specs.Tables.{at}
 use Rattle.finite.proofs.Cases.{byBool, byEq, byLess}
 use Rattle.finite.proofs.Tests.{is-same, not-same, is-under, not-under}
-use Rattle.finite.proofs.Sum.{sum-more, sum-range-le}
+use Rattle.finite.proofs.Sum.{sum-more, sum-range-le, sum-zero-range}
 use Rattle.finite.proofs.Count.{count-le}
 use Rattle.finite.proofs.Least.{least-none}
-use Rattle.topology.specs.Networks.{Network, isReticulation, reticulations}
-use Rattle.topology.specs.Components.{members}
+use Rattle.tables.specs.Columns.{written, blank}
+use Rattle.tables.proofs.Columns.{long, write-here, write-row, write-column, blank-clear}
+use Rattle.layout.specs.Choices.{setting, best}
+use Rattle.topology.specs.Networks.{Network, Sound, isReticulation, reticulations}
+use Rattle.topology.specs.Components.{members, settingOf}
 use Rattle.reconciliation.specs.GeneTrees.{GeneTree}
-use Rattle.reconciliation.specs.Mapping.{Costs}
-use Rattle.topology.specs.Tables.{networkOf}
-use Rattle.gene_tree.specs.Genes.{zeros}
-use Rattle.gene_tree.proofs.Genes.{zeros-long, zeros-at}
-use Rattle.mapping.specs.Genes.{genesOf}
-use Rattle.mapping.specs.Score.{costsOf}
-use Rattle.mapping.specs.declared.UnitCosts.{UnitCosts}
-use Rattle.optimum.specs.Optimum.{trialsOf, settings, trials, trialCost}
-use Rattle.optimum.specs.Machine.{lesser, scored, scoredOf, stateOf, searchAfter}
+use Rattle.reconciliation.specs.Costs.{Costs}
+use Rattle.displayed.specs.Model.{lcaCost}
+use Rattle.displayed.proofs.Model.{lcaCost-same}
+use Rattle.optimum.specs.Optimum.{assembled, trialsOf, settings, trial, trials, trialCost}
+use Rattle.optimum.specs.Machine.{put, lesser, scored, scoredOf, stateOf, searchAfter}
 use Rattle.optimum.specs.Machine as M
-use Rattle.optimum.proofs.Machine.{put-table, after-bests, scored-iff}
+use Rattle.optimum.proofs.Machine.{put-is, after-bests, scored-iff}
 use Rattle.optimum.proofs.Search.{score-take, score-keep, search-start, search-turn, search-next, search-end, search-counted}
 use Rattle.optimum.proofs.Bounds.{trials-le}
-use Rattle.search.specs.declared.State.{State}
-use Rattle.search.specs.Prepared.{Prepared}
-use Rattle.search.specs.Steps.{takes, settled, Awaiting, Scored, Reached}
-use Rattle.search.proofs.Preparing.{sizes-by}
+use Rattle.switching.proofs.Settings.{alone-agree}
+use Rattle.search.specs.declared.Stage.{Stage}
+use Rattle.search.specs.Steps.{takes, Settling, settledStage, settledChoices, SettledBy, Finished, Reached, Awaiting, Last}
 
 -- scoring a component's first setting, number 0, leaves it at 0
 lesser-itself : (f : ℕ → ℕ) (b : ℕ) → lesser f b b ≡ b
 unfolding lesser
 lesser-itself f b = byBool (under (f b) (f b)) (λ t. rw t) (λ t. rw t)
 
-score-first : (trial : ℕ → ℕ → ℕ) (l : List ℕ) (t c x : ℕ) → c < length l → x ≡ 0 → at l c ≡ 0 → stateOf (set l c x) (t + 1) ≡ scored trial c x (stateOf l t)
+score-first : (trial : ℕ → ℕ → ℕ) (f : ℕ → ℕ) (t c x : ℕ) → x ≡ 0 → f c ≡ 0 → stateOf (put f c x) (t + 1) ≡ scored trial c x (stateOf f t)
 unfolding stateOf scored
-score-first trial l t c x u e z = rw (put-table l c x u, z, e, lesser-itself (trial c) 0, add-one t)
-
-module _ (trial : ℕ → ℕ → ℕ) (s : State) (c x cost : ℕ) (A : Awaiting trial c x s) (low : c ≤ 127) (e : cost ≡ trial c x) where
-  -- setting x becomes the best
-  taken-one : stateOf (set (s .bests) c x) (s .count + 1) ≡ scored trial c x (stateOf (s .bests) (s .count))
-      → Scored trial c x s (record { bests = set (s .bests) c x; least = cost; count = s .count + 1 })
-  taken-one q = record {
-    long = length-set (s .bests) c x ∙ A .long;
-    state = q;
-    cached = e ∙ ap (trial c) (sym (getD-set-same (s .bests) c x 0 (omega (arith, A .long))));
-  }
-
-  pub settled-scored : (r : State) → r ≡ settled s c x cost → Scored trial c x s r
-  unfolding settled takes
-  settled-scored r q = rw q (byEq x 0
-      (λ z. rw (is-same z) (taken-one (score-first trial (s .bests) (s .count) c x (omega (arith, A .long)) z (A .principal z))))
-      (λ d. byLess cost (s .least)
-      (λ l. rw (not-same d, is-under l) (taken-one (score-take trial (s .bests) (s .count) c x cost (s .least) (A .long) low e (A .cached d) l)))
-      (λ l. rw (not-same d, not-under l) (record { long = A .long; state = score-keep trial (s .bests) (s .count) c x cost (s .least) e (A .cached d) l; cached = A .cached d }))))
+score-first trial f t c x z e = rw (z, e, lesser-itself (trial c) 0, add-one t)
 
 -- how many settings
 pub settings-are : (N : Network) (c k r : ℕ) → k ≡ members N c → r ≡ trialsOf k → r ≡ settings N c
 unfolding settings trialsOf
 settings-are N c k r e q = q ∙ rw e
 
-module _ (N : Network) (G : GeneTree) (C : Costs) where
-  pub reached-start : (l : List ℕ) (b : ℕ) → length l ≡ 128 → ((v : ℕ) → at l v ≡ 0) → Reached N G C 0 0 (record { bests = l; least = b; count = 0 })
-  reached-start l b n z = record { long = n; state = search-start (N .size) (settings N) (trialCost N G C) l z; cached = λ d. absurd (d refl) }
+module _ (N : Network) (ok : Sound N) (G : GeneTree) (C : Costs) (low : N .size ≤ 127) (few : (c : ℕ) → members N c ≤ 8) where
+  all-trials : trials N ≤ 100000
+  unfolding reticulations
+  all-trials = omega (arith, trials-le N (λ c _ _. few c), count-le (N .size) (isReticulation N))
 
-  module _ (k m x : ℕ) (s : State) (R : Reached N G C k x s) (e : m ≡ settings N (k + 1)) where
-    -- no more trials than the network has
-    counted : k < N .size → x ≤ m → s .count ≤ trials N
+  pub reached-start : (ch : List ℕ) → ch ≡ blank → Reached N G C ch (record { done = 0; setting = 0; least = 0; count = 0 })
+  reached-start ch e = rw e (record {
+    long = blank-clear 0 (omega arith) .long;
+    state = search-start (N .size) (settings N) (trialCost N G C) (best blank) (blank-clear 1 (omega arith) .none);
+    cached = λ d. absurd (d refl);
+    clear = λ c _. blank-clear 0 (omega arith) .none c;
+  })
+
+  module _ (ch : List ℕ) (s : Stage) (R : Reached N G C ch s) (inside : s .done < N .size) (most : s .setting ≤ settings N (s .done + 1)) where
+    abbrev c : ℕ
+    c = s .done + 1
+
+    abbrev x : ℕ
+    x = s .setting
+
+    within : sum (s .done) (settings N) + x ≤ sum (N .size) (settings N)
+    within = omega (arith, sum-more (s .done) (settings N), sum-range-le (N .size) (s .done + 1) (settings N) (omega arith))
+
+    pub settling : Settling s
     unfolding trials
-    counted u l =
-        let b : sum k (settings N) + x ≤ sum (N .size) (settings N) = omega (arith, sum-more k (settings N), sum-range-le (N .size) (k + 1) (settings N) (omega arith)) in
-        omega (arith, search-counted (N .size) (settings N) (trialCost N G C) (s .bests) (s .count) (sum k (settings N) + x) (R .state) b, b)
+    settling = record {
+      done = omega arith;
+      setting = omega (arith, within, all-trials);
+      count = omega (arith, search-counted (N .size) (settings N) (trialCost N G C) (best ch) (s .count) (sum (s .done) (settings N) + x) (R .state) within, within, all-trials);
+    }
 
     -- none of the component's settings is scored, so it is all principal still
-    unscored : k < N .size → x ≤ m → x ≡ 0 → at (s .bests) (k + 1) ≡ 0
+    unscored : x ≡ 0 → best ch c ≡ 0
     unfolding stateOf
-    unscored u l z =
-        let t : ℕ = sum k (settings N) + x in
-        let b : sum k (settings N) + x ≤ sum (N .size) (settings N) = omega (arith, sum-more k (settings N), sum-range-le (N .size) (k + 1) (settings N) (omega arith)) in
-        let none : scoredOf (settings N) (suc k) (sum k (settings N) + x) ≡ 0 = byEq (scoredOf (settings N) (suc k) (sum k (settings N) + x)) 0 (λ q. q)
-        (λ d. absurd (omega (arith, scored-iff (settings N) k (sum k (settings N) + x) 0 .0 (omega arith) .1))) in
-        ap (λ (r : M.State). r .bests (k + 1)) (R .state) ∙ rw (add-one k) (after-bests (N .size) (settings N) (trialCost N G C) (sum k (settings N) + x) k b ∙ rw none (least-none (trialCost N G C (suc k))))
+    unscored z =
+        let none : scoredOf (settings N) (suc (s .done)) (sum (s .done) (settings N) + x) ≡ 0 = byEq (scoredOf (settings N) (suc (s .done)) (sum (s .done) (settings N) + x)) 0 (λ q. q)
+        (λ d. absurd (omega (arith, scored-iff (settings N) (s .done) (sum (s .done) (settings N) + x) 0 .0 (omega arith) .1))) in
+        ap (λ (r : M.State). r .bests (s .done + 1)) (R .state) ∙ rw (add-one (s .done)) (after-bests (N .size) (settings N) (trialCost N G C) (sum (s .done) (settings N) + x) (s .done) within ∙ rw none (least-none (trialCost N G C (suc (s .done)))))
 
-    pub reached-awaiting : N .size ≤ 127 → ((c : ℕ) → members N c ≤ 8) → k < N .size → x < m → Awaiting (trialCost N G C) (k + 1) x s
-    unfolding reticulations
-    reached-awaiting n f u l = record {
-      long = R .long;
-      room = omega (arith, counted u (omega arith), trials-le N (λ c _ _. f c), count-le (N .size) (isReticulation N));
-      principal = unscored u (omega arith);
-      cached = R .cached;
-    }
+    -- the next setting is put into the table, and costs the trial's
+    module _ (ch₁ : List ℕ) (e₁ : ch₁ ≡ written ch 0 c x) where
+      lc : c < 128
+      lc = omega arith
 
-    pub reached-turn : (r : State) → Scored (trialCost N G C) (k + 1) x s r → k < N .size → x < m → Reached N G C k (x + 1) r
-    reached-turn r S u l = record {
-      long = S .long;
-      state = search-turn (N .size) (settings N) (trialCost N G C) (stateOf (s .bests) (s .count)) (stateOf (r .bests) (r .count)) k m x (R .state) e u l (S .state);
-      cached = λ _. S .cached;
-    }
+      same-best : best ch₁ ≡ best ch
+      same-best = fun-ext (λ v. rw e₁ (write-column ch 0 c x lc 1 v (λ q. omega arith)))
 
-    pub reached-next : x ≤ m → m ≤ x → Reached N G C (k + 1) 0 s
-    reached-next a b = record {
-      long = R .long;
-      state = search-next (N .size) (settings N) (trialCost N G C) (stateOf (s .bests) (s .count)) k m x (R .state) e a b;
-      cached = λ d. absurd (d refl);
-    }
+      here : setting ch₁ c ≡ x
+      here = rw e₁ (write-here ch 0 c x lc (omega (arith, R .long)))
 
-  pub reached-end : (k : ℕ) (s : State) → Reached N G C k 0 s → k ≤ N .size → N .size ≤ k → stateOf (s .bests) (s .count) ≡ searchAfter N G C (trials N)
-  reached-end k s R a b = search-end N G C (stateOf (s .bests) (s .count)) k (R .state) a b
+      others : (a : ℕ) → a ≢ c → setting ch₁ a ≡ 0
+      others a d = rw e₁ (write-row ch 0 c x lc 0 a d) ∙ R .clear a d
 
--- the same of what is prepared, in the shape of the loops' facts: t is how many settings component k + 1 is tried in
-module _ (n : ℕ) (principal secondary stamp height top sizes index : List ℕ) (m : ℕ) (left right leaf mother : List ℕ) (u : UnitCosts)
-    (P : Prepared n principal secondary stamp height top sizes index m left right leaf mother u) where
-  abbrev N : Network
-  N = networkOf n principal secondary stamp
+      long₁ : length ch₁ ≡ 512
+      long₁ = rw e₁ (long ch 0 c x lc) ∙ R .long
 
-  abbrev G : GeneTree
-  G = genesOf m left right leaf mother
+      pub trial-is : (cost : ℕ) → cost ≡ lcaCost N G C (assembled N (setting ch₁)) → cost ≡ trialCost N G C c x
+      unfolding trial
+      trial-is cost q = q ∙ lcaCost-same N (assembled N (setting ch₁)) (settingOf N c x) (alone-agree N ok (setting ch₁) c x here others) G C
 
-  pub loop-start : Reached (networkOf n principal secondary stamp) (genesOf m left right leaf mother) (costsOf u) 0 0 (record { bests = zeros; least = 0; count = 0 })
-  loop-start = reached-start N G (costsOf u) zeros 0 zeros-long zeros-at
+      module _ (cost : ℕ) (q : cost ≡ trialCost N G C c x) (left : x < settings N c) (ch₂ : List ℕ) (r : Stage) (S : SettledBy s cost ch₁ ch₂ r) where
+        -- the machine's step, in the table
+        turn : (f : ℕ → ℕ) → stateOf f (s .count + 1) ≡ scored (trialCost N G C) c x (stateOf (best ch) (s .count))
+            → stateOf f (s .count + 1) ≡ searchAfter N G C (sum (s .done) (settings N) + (x + 1))
+        turn f = search-turn (N .size) (settings N) (trialCost N G C) (stateOf (best ch) (s .count)) (stateOf f (s .count + 1)) (s .done) (settings N c) x (R .state) refl inside left
 
-  module _ (k t x : ℕ) (s : State) (R : Reached (networkOf n principal secondary stamp) (genesOf m left right leaf mother) (costsOf u) k x s) (l : k < n) (e : t ≡ trialsOf (at sizes (k + 1))) where
-    tried : t ≡ settings N (k + 1)
-    tried = settings-are N (k + 1) (at sizes (k + 1)) t (sizes-by n principal secondary stamp height top sizes index m left right leaf mother u P (k + 1) (omega arith) (omega arith)) e
+        taken : takes x cost (s .least) ≡ true → stateOf (put (best ch) c x) (s .count + 1) ≡ scored (trialCost N G C) c x (stateOf (best ch) (s .count)) → Reached N G C ch₂ r
+        unfolding settledStage settledChoices
+        taken t p =
+            let g = S .stage in
+            let w : ch₂ ≡ written ch₁ 1 c x = S .choices ∙ rw t in
+            let b : best ch₂ ≡ put (best ch) c x = rw w (put-is (best ch) (best (written ch₁ 1 c x)) c x (write-here ch₁ 1 c x lc (omega (arith, long₁)))
+            (λ d n. write-row ch₁ 1 c x lc 1 d n ∙ ap (λ (f : ℕ → ℕ). f d) same-best)) in
+            rw (g, t) (record {
+              long = rw w (long ch₁ 1 c x lc) ∙ long₁;
+              state = rw b (turn (put (best ch) c x) p);
+              cached = λ _. q ∙ ap (trialCost N G C c) (sym (rw w (write-here ch₁ 1 c x lc (omega (arith, long₁)))));
+              clear = λ d n. rw w (write-column ch₁ 1 c x lc 0 d (λ z. omega arith)) ∙ others d n;
+            })
 
-    in-size : k < N .size
-    unfolding networkOf
-    in-size = l
+        kept : takes x cost (s .least) ≡ false → s .least ≡ trialCost N G C c (best ch c) → stateOf (best ch) (s .count + 1) ≡ scored (trialCost N G C) c x (stateOf (best ch) (s .count)) → Reached N G C ch₂ r
+        unfolding settledStage settledChoices
+        kept t l p =
+            let g = S .stage in
+            let w : ch₂ ≡ ch₁ = S .choices ∙ rw t in
+            rw (g, t, w) (record {
+              long = long₁;
+              state = rw same-best (turn (best ch) p);
+              cached = λ _. l ∙ ap (λ (f : ℕ → ℕ). trialCost N G C c (f c)) (sym same-best);
+              clear = others;
+            })
 
-    low-size : N .size ≤ 127
-    unfolding networkOf
-    low-size = P .nodes
+        pub stepped : Reached N G C ch₂ r
+        unfolding takes
+        stepped = byEq x 0
+            (λ z. taken (rw (is-same z)) (score-first (trialCost N G C) (best ch) (s .count) c x z (unscored z)))
+            (λ d. byLess cost (s .least)
+            (λ l. taken (rw (not-same d, is-under l)) (score-take (trialCost N G C) (best ch) (s .count) c x cost (s .least) q (R .cached d) l))
+            (λ l. kept (rw (not-same d, not-under l)) (R .cached d) (score-keep (trialCost N G C) (best ch) (s .count) c x cost (s .least) q (R .cached d) l)))
 
-    pub loop-awaits : x < t → Awaiting (trialCost (networkOf n principal secondary stamp) (genesOf m left right leaf mother) (costsOf u)) (k + 1) x s
-    loop-awaits o = reached-awaiting N G (costsOf u) k t x s R tried low-size (P .few) in-size o
+        pub stepped-done : (r .done ≡ s .done) × (r .setting ≡ s .setting + 1)
+        unfolding settledStage
+        stepped-done = (ap (λ (z : Stage). z .done) (S .stage), ap (λ (z : Stage). z .setting) (S .stage))
 
-    pub loop-turn : x < t → (r : State) → Scored (trialCost (networkOf n principal secondary stamp) (genesOf m left right leaf mother) (costsOf u)) (k + 1) x s r
-        → Reached (networkOf n principal secondary stamp) (genesOf m left right leaf mother) (costsOf u) k (x + 1) r
-    loop-turn o r S = reached-turn N G (costsOf u) k t x s R tried r S in-size o
+    -- all of the component's settings are scored
+    pub finished : (ch₂ : List ℕ) (r : Stage) → Finished s ch ch₂ r → settings N c ≤ x → Reached N G C ch₂ r
+    finished ch₂ r F more =
+        let g = F .stage in
+        let w = F .choices in
+        let lc : c < 128 = omega arith in
+        rw (g, w) (record {
+          long = long ch 0 c 0 lc ∙ R .long;
+          state = rw (fun-ext (λ v. write-column ch 0 c 0 lc 1 v (λ z. omega arith))) (search-next (N .size) (settings N) (trialCost N G C) (stateOf (best ch) (s .count)) (s .done) (settings N c) x (R .state) refl most more);
+          cached = λ d. absurd (d refl);
+          clear = λ d n. byEq d c (λ e. rw e (write-here ch 0 c 0 lc (omega (arith, R .long)))) (λ z. write-row ch 0 c 0 lc 0 d z ∙ R .clear d z);
+        })
 
-    pub loop-next : x ≤ t → t ≤ x → Reached (networkOf n principal secondary stamp) (genesOf m left right leaf mother) (costsOf u) (k + 1) 0 s
-    loop-next a b = reached-next N G (costsOf u) k t x s R tried a b
-
-  -- a component without reticulations has no setting to score
-  pub loop-skip : (k : ℕ) (s : State) → Reached (networkOf n principal secondary stamp) (genesOf m left right leaf mother) (costsOf u) k 0 s → k < n → at sizes (k + 1) ≡ 0
-      → Reached (networkOf n principal secondary stamp) (genesOf m left right leaf mother) (costsOf u) (k + 1) 0 s
-  unfolding trialsOf
-  loop-skip k s R l e = loop-next k 0 0 s R l (rw (e, is-same {m = 0} refl)) (omega arith) (omega arith)
-
-  pub loop-end : (k : ℕ) (s : State) → Reached (networkOf n principal secondary stamp) (genesOf m left right leaf mother) (costsOf u) k 0 s → k ≤ n → n ≤ k
-      → stateOf (s .bests) (s .count) ≡ searchAfter (networkOf n principal secondary stamp) (genesOf m left right leaf mother) (costsOf u) (trials (networkOf n principal secondary stamp))
-  unfolding networkOf
-  loop-end k s R a b = reached-end N G (costsOf u) k s R a b
+  pub reached-end : (ch : List ℕ) (s : Stage) → Reached N G C ch s → s .setting ≡ 0 → s .done ≤ N .size → N .size ≤ s .done → Last N G C ch (s .count)
+  reached-end ch s R z a b = search-end N G C (stateOf (best ch) (s .count)) (s .done) (R .state ∙ ap (λ (k : ℕ). searchAfter N G C (sum (s .done) (settings N) + k)) z) a b

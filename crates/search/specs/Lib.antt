@@ -1,4 +1,3 @@
 pub mod Prepared
 pub mod Steps
-pub mod Reported
 pub mod Searched

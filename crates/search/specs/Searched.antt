@@ -2,34 +2,32 @@
 -- network, the first of the cheapest in 01's order.
 -- Assumes nothing.
 use mathlib.Core.Path.{_≡_}
+use mathlib.Core.List.{List}
 use Prim.Native.Nat.{ℕ, _≤_}
-use Rattle.finite.specs.Tests.{tally}
-use Rattle.finite.specs.Tables.{at}
-use Rattle.topology.specs.Networks.{Network}
-use Rattle.topology.specs.Switchings.{Switching, onSecondary, parent}
-use Rattle.reconciliation.specs.GeneTrees.{GeneTree}
-use Rattle.mapping.specs.Score.{costsOf, scoreOf}
-use Rattle.mapping.specs.declared.UnitCosts.{UnitCosts}
-use Rattle.optimum.specs.Optimum.{assembled, trials, best, Optimal}
-use Rattle.optimum.specs.Machine.{stateOf, searchAfter, AsScored}
+use Rattle.layout.specs.Choices.{best}
+use Rattle.layout.specs.Headers.{costs}
+use Rattle.layout.specs.declared.Header.{Header}
+use Rattle.topology.specs.Switchings.{Switching}
+use Rattle.optimum.specs.Optimum.{assembled, trials, Optimal}
+use Rattle.optimum.specs.Optimum as O
+use Rattle.optimum.specs.Machine.{searchAfter, AsScored}
+use Rattle.search.specs.Prepared.{networkOf, genesOf, Assembled}
+use Rattle.search.specs.Steps.{Last}
 use Rattle.search.specs.declared.Found.{Found}
 
 -- "the bests of its last state are the setting reported"
-unfoldable pub reported : Network → Found → Switching
-reported N f = assembled N (at (f .bests))
+abbrev pub reported : Header → (lines choices : List ℕ) → Switching
+reported h lines choices = assembled (networkOf h lines) (best choices)
 
-pub record Searched (N : Network) (G : GeneTree) (u : UnitCosts) (f : Found) : Type 0 where
+pub record Searched (h : Header) (lines genes choices t r : List ℕ) (f : Found) : Type 0 where
   -- "After t steps the count is t, and a component's best is the first, among those of its settings that are among the t scored .."
-  pub steps : (t : ℕ) → t ≤ trials N → AsScored N G (costsOf u) t (searchAfter N G (costsOf u) t)
+  pub steps : (k : ℕ) → k ≤ trials (networkOf h lines) → AsScored (networkOf h lines) (genesOf h genes) (costs h) k (searchAfter (networkOf h lines) (genesOf h genes) (costs h) k)
   -- "With no setting left the search stops"
-  pub last : stateOf (f .bests) (f .trials) ≡ searchAfter N G (costsOf u) (trials N)
+  pub last : Last (networkOf h lines) (genesOf h genes) (costs h) choices (f .trials)
   -- "its count the trials reported, the sum of 2^k over components with k at least 1"
-  pub count : f .trials ≡ trials N
-  pub bests : (c : ℕ) → 1 ≤ c → c ≤ N .size → at (f .bests) c ≡ best N G (costsOf u) c
-  -- the switching reported, as tables
-  pub marks : (v : ℕ) → at (f .on) v ≡ tally (onSecondary N (reported N f) v)
-  pub parents : (v : ℕ) → at (f .up) v ≡ parent N (reported N f) v
-  -- "the report's first number is that of the setting reported", and the counts
-  pub score : f .score ≡ scoreOf N G u (reported N f)
+  pub count : f .trials ≡ trials (networkOf h lines)
+  pub bests : (c : ℕ) → 1 ≤ c → c ≤ h .nodes → best choices c ≡ O.best (networkOf h lines) (genesOf h genes) (costs h) c
+  -- "the report's first number is that of the setting reported", with the counts, and every gene under it
+  pub assembly : Assembled h lines genes (best choices) t r (f .score)
   -- demand 3: for every switching of the whole network, and with the order at ties
-  pub optimal : Optimal N G (costsOf u) (reported N f)
+  pub optimal : Optimal (networkOf h lines) (genesOf h genes) (costs h) (reported h lines choices)

@@ -1,83 +1,59 @@
--- `mapping::evaluate` meets its contract. Each callee takes what the one before it gave.
 -- Assumes nothing.
-use mathlib.Core.Path.{refl}
-use Rattle.finite.specs.Tables.{zeros}
-use Rattle.mapping.proofs.Climbs.{up-low, on-low}
+use native.Mathlib.Omega.{arith}
 use borrow.Author.Needs.{needs}
+use Rattle.mapping.proofs.Evaluating.{upto-start, counted, scored, evaluated}
+use Rattle.mapping.specs.Evaluation.{Upto}
+use Rattle.mapping.specs.Climbs.{treeOf}
+use Rattle.layout.specs.Headers.{costs}
+use Rattle.layout.specs.Genes.{geneTree}
+use Prim.Native.Nat.{_≤_}
 use Rattle.mapping.proofs.evaluate.Statement.{statement}
 use Rattle.mapping.proofs.evaluate.Tie as tie
 use Rattle.mapping.proofs.evaluate.Reads as reads
 use Rattle.mapping.proofs.evaluate.Lts as lts
-use Rattle.mapping.proofs.events.Reads as events-reads
-use Rattle.mapping.proofs.forks.Reads as forks-reads
-use Rattle.mapping.proofs.leaving.Reads as leaving-reads
-use Rattle.mapping.proofs.losses.Reads as losses-reads
-use Rattle.mapping.proofs.places.Reads as places-reads
-use Rattle.mapping.proofs.totals.Reads as totals-reads
-use Rattle.mapping.proofs.transfers.Reads as transfers-reads
+use Rattle.mapping.proofs.gene.Reads as gene-reads
+use Rattle.mapping.proofs.total.Reads as total-reads
 
-leaving-requires : tie.Need-leaving-requires
-unfolding zeros
-leaving-requires c κs =
-    let s = c .before .pre in
-    (search needs, up-low _ _ _ _ (s .0), on-low _ _ _ _ (s .0), refl)
+abbrev Inv-loop : tie.InvT-loop
+Inv-loop h t g r₀ s₀ k₀ r s k = (k ≤ h .genes) × Upto (treeOf (h .nodes) t) (geneTree (h .genes) g) (costs h) k r s
 
-forks-requires : tie.Need-forks-requires
-unfolding zeros
-forks-requires c κs = search needs
+abbrev μ-loop : tie.MeasureT-loop
+μ-loop h t g r₀ s₀ k₀ r s k = k
 
-places-requires : tie.Need-places-requires
-places-requires c κs =
-    let s = c .before .before .before .before .before .pre in
-    (s .0, (s .1 .0, s .1 .1 .1))
+loop-holds : tie.Need-loop-holds Inv-loop μ-loop
+loop-holds c = (search needs, upto-start _ _ _ (c .pre .0) _ (c .pre .1))
 
-events-requires : tie.Need-events-requires
-events-requires c κs =
-    let s = c .before .before .before .before .before .before .before .before .before .pre in
-    let p = c .before .before .before .places .ensures in
-    let a = c .before .before .before .before .before .before .before .leaving .ensures in
-    (s .0, (s .1 .0, (p, a, s .1 .1 .2)))
+gene-requires : tie.Need-gene-requires Inv-loop μ-loop
+gene-requires c κs = let s = c .before .before .before .pre in let i = c .before .before .loop .inv in ((s .0, search needs, i .0), i .1)
 
-transfers-requires : tie.Need-transfers-requires
-transfers-requires c κs =
-    let s = c .before .before .before .before .before .before .before .before .before .before .before .before .pre in
-    let p = c .before .before .before .before .before .before .places .ensures in
-    (s .0, (s .1 .0, (p, s .1 .1 .3)))
+sub-k : tie.Need-sub-k Inv-loop μ-loop
+sub-k c = search needs
 
-losses-requires : tie.Need-losses-requires
-losses-requires c κs =
-    let s = c .before .before .before .before .before .before .before .before .before .before .before .before .before .before .before .before .before .pre in
-    let f = c .before .before .before .before .before .before .before .before .before .before .before .before .before .forks .ensures in
-    let p = c .before .before .before .before .before .before .before .before .before .before .before .places .ensures in
-    let e = c .before .before .before .before .before .before .before .events .ensures in
-    (s .0, (s .1 .0, (f, p, e, s .1 .1 .4)))
+loop-less : tie.Need-loop-less Inv-loop μ-loop
+loop-less c = search needs
 
-totals-requires : tie.Need-totals-requires
-totals-requires c κs =
-    let s = c .before .before .before .before .before .before .before .before .before .before .before .before .before .before .before .before .before .before .before .before .before .pre in
-    let e = c .before .before .before .before .before .before .before .before .before .before .before .events .ensures in
-    let t = c .before .before .before .before .before .before .before .before .transfers .ensures in
-    let l = c .before .before .before .losses .ensures in
-    (s .0, (s .1 .0, (e, t, l, s .1 .1 .0)))
+loop-again : tie.Need-loop-again Inv-loop μ-loop
+loop-again c = (omega (arith, c .before .before .before .loop .inv .0), c .gene .ensures)
 
-returns : tie.Need-returns
+total-requires : tie.Need-total-requires Inv-loop μ-loop
+total-requires c κs = let s = c .before .before .pre in let i = c .before .loop .inv in counted _ _ _ (s .0) _ _ _ (search needs) (i .1)
+
+returns : tie.Need-returns Inv-loop μ-loop
 returns c =
-    let p = c .before .before .before .before .before .before .before .before .before .before .before .before .before .before .before .before .places .ensures in
-    let e = c .before .before .before .before .before .before .before .before .before .before .before .before .events .ensures in
-    let t = c .before .before .before .before .before .before .before .before .before .transfers .ensures in
-    let l = c .before .before .before .before .losses .ensures in
-    let r = c .totals .ensures in
-    (r, record { placed = p; events = e; moved = t; lost = l })
+    let s = c .before .before .before .pre in
+    let i = c .before .before .loop .inv in
+    (scored _ _ _ (s .0) _ _ _ (search needs) (i .1) _ (c .total .ensures), evaluated _ _ _ (s .0) _ _ _ (search needs) (i .1))
 
 pub evaluate-spec : {M : Type 1} → statement M
 evaluate-spec =
     tie.close
     (tie.spec
-    leaving-requires
-    forks-requires
-    places-requires
-    events-requires
-    transfers-requires
-    losses-requires
-    totals-requires
+    Inv-loop
+    μ-loop
+    loop-holds
+    gene-requires
+    sub-k
+    loop-less
+    loop-again
+    total-requires
     returns)

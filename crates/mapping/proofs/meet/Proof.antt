@@ -1,89 +1,72 @@
--- `mapping::meet` meets its contract. The invariant: what is added up and what lies ahead of the two climbers make up their ways; the measure is the sum
--- of their heights.
 -- Assumes nothing.
+use Rattle.mapping.proofs.Meeting.{Climbing, node-few, climbing-start, left-node, right-node, left-light, right-light, climbing-left, climbing-right, falls-left, falls-right, climbing-done}
+use Rattle.mapping.specs.Climbs.{treeOf}
 use Prim.Native.Nat.{_+_}
-use native.Mathlib.Omega.{arith}
-use Rattle.topology.specs.Switchings as S
-use Rattle.mapping.specs.Switched.{switchedOf}
-use Rattle.mapping.proofs.Meeting.{Climb, weigh-loop, fits-left, fits-right}
-use borrow.Author.Needs.{needs}
 use Rattle.mapping.proofs.meet.Statement.{statement}
 use Rattle.mapping.proofs.meet.Tie as tie
 use Rattle.mapping.proofs.meet.Reads as reads
 use Rattle.mapping.proofs.meet.Lts as lts
-use Rattle.tables.proofs.wide.Reads as wide-reads
+use Rattle.layout.proofs.tree.rank.Reads as rank-reads
+use Rattle.layout.proofs.tree.up.Reads as up-reads
+use Rattle.mapping.proofs.climb.Reads as climb-reads
 
 abbrev Inv-loop : tie.InvT-loop
-Inv-loop n up on height weight x y a₀ b₀ r₀ a b r = Climb n up on height weight x y a b r
+Inv-loop n t x y a₀ b₀ left₀ right₀ a b left right = Climbing (treeOf n t) x y a b left right
 
 abbrev μ-loop : tie.MeasureT-loop
-μ-loop n up on height weight x y a₀ b₀ r₀ a b r = S.height (switchedOf n up on height) a + S.height (switchedOf n up on height) b
+μ-loop n t x y a₀ b₀ left₀ right₀ a b left right = treeOf n t .rank a + treeOf n t .rank b
 
 loop-holds : tie.Need-loop-holds Inv-loop μ-loop
-loop-holds c = search (needs, weigh-loop)
+loop-holds c = let s = c .pre in climbing-start _ _ (s .0) _ _ (s .1) (s .2)
 
-mul-if1 : tie.Need-mul-if1 Inv-loop μ-loop
-mul-if1 c = search needs
+rank-requires : tie.Need-rank-requires Inv-loop μ-loop
+rank-requires c κs = let s = c .before .before .pre in let i = c .before .loop .inv in node-few _ _ (s .0) _ (right-node _ _ (s .0) _ _ (s .1) (s .2) _ _ _ _ i) .0
 
-element-copy-out-if1 : tie.Need-element-copy-out-if1 Inv-loop μ-loop
-element-copy-out-if1 c = search needs
+rank-requires-2 : tie.Need-rank-requires-2 Inv-loop μ-loop
+rank-requires-2 c κs = let s = c .before .before .before .pre in let i = c .before .before .loop .inv in node-few _ _ (s .0) _ (left-node _ _ (s .0) _ _ (s .1) (s .2) _ _ _ _ i) .0
 
-mul-if1-2 : tie.Need-mul-if1-2 Inv-loop μ-loop
-mul-if1-2 c = search needs
+climb-requires : tie.Need-climb-requires Inv-loop μ-loop
+climb-requires c κs =
+    let s = c .before .before .before .before .before .pre in let i = c .before .before .before .before .loop .inv in
+    let f = node-few _ _ (s .0) _ (left-node _ _ (s .0) _ _ (s .1) (s .2) _ _ _ _ i) in
+    (f .0, f .1, f .2, left-light _ _ (s .0) _ _ (s .1) (s .2) _ _ _ _ i)
 
-element-copy-out-if1-2 : tie.Need-element-copy-out-if1-2 Inv-loop μ-loop
-element-copy-out-if1-2 c = search needs
-
-mul-r : tie.Need-mul-r Inv-loop μ-loop
-mul-r c = search needs
-
-element-copy-out-r : tie.Need-element-copy-out-r Inv-loop μ-loop
-element-copy-out-r c = search needs
-
-add-r : tie.Need-add-r Inv-loop μ-loop
-add-r c = let l = c .before .before .before .before .before .loop in omega (arith, fits-left _ _ _ _ _ (c .before .before .before .before .before .before .pre .0) _ _ (l .a) (l .b) (l .r) (l .inv) (c .before .if1 .taken) (c .before .before .before .before .loop-test .taken))
-
-mul-wide : tie.Need-mul-wide Inv-loop μ-loop
-mul-wide c = search needs
-
-element-copy-out-wide : tie.Need-element-copy-out-wide Inv-loop μ-loop
-element-copy-out-wide c = search needs
-
-wide-requires : tie.Need-wide-requires Inv-loop μ-loop
-wide-requires c κs = search needs
+up-requires : tie.Need-up-requires Inv-loop μ-loop
+up-requires c κs = let s = c .before .before .before .before .before .before .pre in let i = c .before .before .before .before .before .loop .inv in node-few _ _ (s .0) _ (left-node _ _ (s .0) _ _ (s .1) (s .2) _ _ _ _ i) .0
 
 loop-less : tie.Need-loop-less Inv-loop μ-loop
-loop-less c = search (needs, weigh-loop)
+loop-less c =
+    let s = c .before .before .before .before .before .before .before .pre in let i = c .before .before .before .before .before .before .loop .inv in
+    falls-left _ _ (s .0) _ _ (s .1) (s .2) _ _ _ _ i _ _ _ (c .before .before .before .rank2 .ensures) (c .before .before .before .before .rank .ensures) (c .before .before .if1 .taken) (c .before .before .before .before .before .loop-test .taken) (c .up .ensures)
 
 loop-again : tie.Need-loop-again Inv-loop μ-loop
-loop-again c = search (needs, weigh-loop)
+loop-again c =
+    let s = c .before .before .before .before .before .before .before .pre in let i = c .before .before .before .before .before .before .loop .inv in
+    climbing-left _ _ (s .0) _ _ (s .1) (s .2) _ _ _ _ i _ _ _ (c .before .before .before .rank2 .ensures) (c .before .before .before .before .rank .ensures) _ (c .before .before .if1 .taken) (c .before .before .before .before .before .loop-test .taken) (c .before .climb .ensures) (c .up .ensures)
 
-mul-r-2 : tie.Need-mul-r-2 Inv-loop μ-loop
-mul-r-2 c = search needs
+climb-requires-2 : tie.Need-climb-requires-2 Inv-loop μ-loop
+climb-requires-2 c κs =
+    let s = c .before .before .before .before .before .pre in let i = c .before .before .before .before .loop .inv in
+    let f = node-few _ _ (s .0) _ (right-node _ _ (s .0) _ _ (s .1) (s .2) _ _ _ _ i) in
+    (f .0, f .1, f .2, right-light _ _ (s .0) _ _ (s .1) (s .2) _ _ _ _ i)
 
-element-copy-out-r-2 : tie.Need-element-copy-out-r-2 Inv-loop μ-loop
-element-copy-out-r-2 c = search needs
-
-add-r-2 : tie.Need-add-r-2 Inv-loop μ-loop
-add-r-2 c = let l = c .before .before .before .before .before .loop in omega (arith, fits-right _ _ _ _ _ (c .before .before .before .before .before .before .pre .0) _ _ (l .a) (l .b) (l .r) (l .inv) (c .before .if1 .left))
-
-mul-wide-2 : tie.Need-mul-wide-2 Inv-loop μ-loop
-mul-wide-2 c = search needs
-
-element-copy-out-wide-2 : tie.Need-element-copy-out-wide-2 Inv-loop μ-loop
-element-copy-out-wide-2 c = search needs
-
-wide-requires-2 : tie.Need-wide-requires-2 Inv-loop μ-loop
-wide-requires-2 c κs = search needs
+up-requires-2 : tie.Need-up-requires-2 Inv-loop μ-loop
+up-requires-2 c κs = let s = c .before .before .before .before .before .before .pre in let i = c .before .before .before .before .before .loop .inv in node-few _ _ (s .0) _ (right-node _ _ (s .0) _ _ (s .1) (s .2) _ _ _ _ i) .0
 
 loop-less-2 : tie.Need-loop-less-2 Inv-loop μ-loop
-loop-less-2 c = search (needs, weigh-loop)
+loop-less-2 c =
+    let s = c .before .before .before .before .before .before .before .pre in let i = c .before .before .before .before .before .before .loop .inv in
+    falls-right _ _ (s .0) _ _ (s .1) (s .2) _ _ _ _ i _ _ _ (c .before .before .before .rank2 .ensures) (c .before .before .before .before .rank .ensures) (c .before .before .if1 .left) (c .up2 .ensures)
 
 loop-again-2 : tie.Need-loop-again-2 Inv-loop μ-loop
-loop-again-2 c = search (needs, weigh-loop)
+loop-again-2 c =
+    let s = c .before .before .before .before .before .before .before .pre in let i = c .before .before .before .before .before .before .loop .inv in
+    climbing-right _ _ (s .0) _ _ (s .1) (s .2) _ _ _ _ i _ _ _ (c .before .before .before .rank2 .ensures) (c .before .before .before .before .rank .ensures) _ (c .before .before .if1 .left) (c .before .climb2 .ensures) (c .up2 .ensures)
 
 returns : tie.Need-returns Inv-loop μ-loop
-returns c = search (needs, weigh-loop)
+returns c =
+    let s = c .before .before .pre in let i = c .before .loop .inv in
+    climbing-done _ _ (s .0) _ _ (s .1) (s .2) _ _ _ _ i (c .loop-test .left)
 
 pub meet-spec : {M : Type 1} → statement M
 meet-spec =
@@ -92,24 +75,14 @@ meet-spec =
     Inv-loop
     μ-loop
     loop-holds
-    mul-if1
-    element-copy-out-if1
-    mul-if1-2
-    element-copy-out-if1-2
-    mul-r
-    element-copy-out-r
-    add-r
-    mul-wide
-    element-copy-out-wide
-    wide-requires
+    rank-requires
+    rank-requires-2
+    climb-requires
+    up-requires
     loop-less
     loop-again
-    mul-r-2
-    element-copy-out-r-2
-    add-r-2
-    mul-wide-2
-    element-copy-out-wide-2
-    wide-requires-2
+    climb-requires-2
+    up-requires-2
     loop-less-2
     loop-again-2
     returns)

@@ -1,65 +1,66 @@
--- With x settings of component k + 1 scored the state is the one that 01 gives for so many steps; at the end all of them are.
 -- Assumes nothing.
-use Prim.Native.Nat.{_-_, _≤_}
 use native.Mathlib.Omega.{arith}
-use Rattle.topology.specs.Tables.{networkOf}
-use Rattle.mapping.specs.Genes.{genesOf}
-use Rattle.mapping.specs.Score.{costsOf}
-use Rattle.search.specs.Steps.{Reached}
-use Rattle.search.proofs.Preparing.{few-by}
-use Rattle.search.proofs.Steps.{loop-awaits, loop-turn, loop-next}
 use borrow.Author.Needs.{needs}
+use mathlib.Core.Path.{_≡_, refl, _∙_}
+use Rattle.search.proofs.Turns.{few-reticulations, tried-is, tried-still, awaits, finishes}
+use Rattle.search.specs.Steps.{Reached}
+use Rattle.search.specs.Prepared.{networkOf, genesOf, Working}
+use Rattle.layout.specs.Headers.{costs}
+use Prim.Native.Nat.{_-_, _≤_}
 use Rattle.search.proofs.component.Statement.{statement}
 use Rattle.search.proofs.component.Tie as tie
 use Rattle.search.proofs.component.Reads as reads
 use Rattle.search.proofs.component.Lts as lts
+use Rattle.layout.proofs.parts.reticulation_count.Reads as reticulation-count-reads
+use Rattle.search.proofs.finish.Reads as finish-reads
 use Rattle.search.proofs.settings_of.Reads as settings-of-reads
 use Rattle.search.proofs.step.Reads as step-reads
 
 abbrev Inv-loop : tie.InvT-loop
-Inv-loop n principal secondary stamp height top members index m left right leaf mother u k c tried now₀ x₀ now x = (x ≤ tried) × Reached (networkOf n principal secondary stamp) (genesOf m left right leaf mother) (costsOf u) k x now
+Inv-loop h lines parts genes choices₀ t₀ r₀ tried stage₀ choices t r stage = (stage .done ≡ stage₀ .done) × (stage .setting ≤ tried) × Reached (networkOf h lines) (genesOf h genes) (costs h) choices stage × Working h lines genes t r
 
 abbrev μ-loop : tie.MeasureT-loop
-μ-loop n principal secondary stamp height top members index m left right leaf mother u k c tried now₀ x₀ now x = tried - x
+μ-loop h lines parts genes choices₀ t₀ r₀ tried stage₀ choices t r stage = tried - stage .setting
 
-add-c : tie.Need-add-c Inv-loop μ-loop
-add-c c = search needs
+add-reticulation-count : tie.Need-add-reticulation-count Inv-loop μ-loop
+add-reticulation-count c = let s = c .before .pre in omega (arith, s .1 .1, s .0 .0 .limits .few-nodes)
 
-mul-settings-of : tie.Need-mul-settings-of Inv-loop μ-loop
-mul-settings-of c = search needs
-
-element-copy-out-settings-of : tie.Need-element-copy-out-settings-of Inv-loop μ-loop
-element-copy-out-settings-of c = search needs
+reticulation-count-requires : tie.Need-reticulation-count-requires Inv-loop μ-loop
+reticulation-count-requires c κs = let s = c .before .pre in omega (arith, s .1 .1, s .0 .0 .limits .few-nodes)
 
 settings-of-requires : tie.Need-settings-of-requires Inv-loop μ-loop
-settings-of-requires c κs = let s = c .before .pre in few-by _ _ _ _ _ _ _ _ _ _ _ _ _ _ (s .0) _ (omega arith) (omega (arith, s .1 .0))
+settings-of-requires c κs = let s = c .before .before .pre in few-reticulations _ _ _ _ (s .0 .0) _ _ 0 (omega arith) (omega (arith, s .1 .1)) (c .reticulation-count .ensures)
 
 loop-holds : tie.Need-loop-holds Inv-loop μ-loop
-loop-holds c = (omega arith, c .before .before .pre .1 .1)
+loop-holds c = let s = c .before .before .before .pre in (refl, omega (arith, s .1 .2), s .1 .0, s .0 .1)
 
 step-requires : tie.Need-step-requires Inv-loop μ-loop
 step-requires c κs =
-    let s = c .before .before .before .before .pre in
-    let e = c .before .before .settings-of .ensures in
-    (s .0, (omega arith, omega (arith, s .1 .0), loop-awaits _ _ _ _ _ _ _ _ _ _ _ _ _ _ (s .0) _ _ _ _ (c .before .loop .inv .1) (s .1 .0) e (c .loop-test .taken)))
-
-add-x : tie.Need-add-x Inv-loop μ-loop
-add-x c = search needs
+    let s = c .before .before .before .before .before .before .before .before .before .pre in
+    let i = c .before .before .before .before .before .loop .inv in
+    ((s .0 .0, i .3), awaits _ _ _ _ (s .0 .0) _ _ (i .2) (omega (arith, i .0, s .1 .1)) _ (tried-still _ _ _ _ (s .0 .0) _ _ _ (tried-is _ _ _ _ (s .0 .0) _ _ _ (omega arith) (omega (arith, s .1 .1)) (c .before .before .before .before .before .before .before .reticulation-count .ensures) (c .before .before .before .before .before .before .settings-of .ensures)) (i .0)) (c .before .before .before .if1 .taken))
 
 loop-less : tie.Need-loop-less Inv-loop μ-loop
-loop-less c = search needs
+loop-less c = omega (arith, c .step .ensures .0 .2, c .before .before .before .before .if1 .taken)
 
 loop-again : tie.Need-loop-again Inv-loop μ-loop
 loop-again c =
-    let s = c .before .before .before .before .before .pre in
-    let e = c .before .before .before .settings-of .ensures in
-    (search needs, loop-turn _ _ _ _ _ _ _ _ _ _ _ _ _ _ (s .0) _ _ _ _ (c .before .before .loop .inv .1) (s .1 .0) e (c .before .loop-test .taken) _ (c .step .ensures))
+    let i = c .before .before .before .before .before .before .loop .inv in
+    let e = c .step .ensures in
+    (e .0 .1 ∙ i .0, omega (arith, e .0 .2, c .before .before .before .before .if1 .taken), e .0 .0, e .1)
+
+finish-requires : tie.Need-finish-requires Inv-loop μ-loop
+finish-requires c κs =
+    let s = c .before .before .before .before .before .before .before .pre in
+    let i = c .before .before .before .loop .inv in
+    omega (arith, i .0, s .1 .1, s .0 .0 .limits .few-nodes)
 
 returns : tie.Need-returns Inv-loop μ-loop
 returns c =
-    let s = c .before .before .before .before .pre in
-    let e = c .before .before .settings-of .ensures in
-    loop-next _ _ _ _ _ _ _ _ _ _ _ _ _ _ (s .0) _ _ _ _ (c .before .loop .inv .1) (s .1 .0) e (search needs) (search needs)
+    let s = c .before .before .before .before .before .before .before .before .pre in
+    let i = c .before .before .before .before .loop .inv in
+    let f = finishes _ _ _ _ (s .0 .0) _ _ (i .2) (omega (arith, i .0, s .1 .1)) _ (tried-still _ _ _ _ (s .0 .0) _ _ _ (tried-is _ _ _ _ (s .0 .0) _ _ _ (omega arith) (omega (arith, s .1 .1)) (c .before .before .before .before .before .before .reticulation-count .ensures) (c .before .before .before .before .before .settings-of .ensures)) (i .0)) (i .1) (c .before .before .if1 .left) _ _ (c .finish .ensures) in
+    ((f .0, omega (arith, f .1, i .0), f .2), i .3)
 
 pub component-spec : {M : Type 1} → statement M
 component-spec =
@@ -67,13 +68,12 @@ component-spec =
     (tie.spec
     Inv-loop
     μ-loop
-    add-c
-    mul-settings-of
-    element-copy-out-settings-of
+    add-reticulation-count
+    reticulation-count-requires
     settings-of-requires
     loop-holds
     step-requires
-    add-x
     loop-less
     loop-again
+    finish-requires
     returns)

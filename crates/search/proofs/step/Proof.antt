@@ -1,25 +1,32 @@
--- One trial, and what is made of its cost is the step of the machine (proofs/Steps).
 -- Assumes nothing.
 use native.Mathlib.Omega.{arith}
-use Rattle.search.proofs.Steps.{settled-scored}
+use Rattle.search.proofs.Turns.{step-fits, step-settles, step-reaches, works}
 use borrow.Author.Needs.{needs}
 use Rattle.search.proofs.step.Statement.{statement}
 use Rattle.search.proofs.step.Tie as tie
 use Rattle.search.proofs.step.Reads as reads
 use Rattle.search.proofs.step.Lts as lts
+use Rattle.search.proofs.evaluated.Reads as evaluated-reads
 use Rattle.search.proofs.settle.Reads as settle-reads
-use Rattle.search.proofs.trial.Reads as trial-reads
+use Rattle.tables.proofs.put.Reads as put-reads
 
-trial-requires : tie.Need-trial-requires
-trial-requires c κs = search needs
+add-put : tie.Need-add-put
+add-put c = let s = c .before .before .pre in omega (arith, step-fits _ _ _ _ (s .0 .0) _ _ (s .1))
+
+put-requires : tie.Need-put-requires
+put-requires c κs = let s = c .before .before .pre in (omega arith, step-fits _ _ _ _ (s .0 .0) _ _ (s .1))
+
+evaluated-requires : tie.Need-evaluated-requires
+evaluated-requires c κs = search needs
 
 settle-requires : tie.Need-settle-requires
-settle-requires c κs = let s = c .before .pre in (s .1 .2 .long, omega (arith, s .0 .nodes, s .1 .1), s .1 .2 .room)
+settle-requires c κs = let s = c .before .before .before .before .before .before .before .before .pre in step-settles _ _ _ _ (s .0 .0) _ _ (s .1)
 
 returns : tie.Need-returns
 returns c =
-    let s = c .before .before .pre in
-    settled-scored _ _ _ _ _ (s .1 .2) (omega (arith, s .0 .nodes, s .1 .1)) (c .before .trial .ensures) _ (c .settle .ensures)
+    let s = c .before .before .before .before .before .before .before .before .before .pre in
+    let a = c .before .before .evaluated .ensures in
+    (step-reaches _ _ _ _ (s .0 .0) _ _ (s .1) _ _ _ _ (c .before .before .before .before .before .before .put .ensures) a _ _ (c .settle .ensures), works _ _ _ _ (s .0 .0) _ _ _ _ a)
 
 pub step-spec : {M : Type 1} → statement M
-step-spec = tie.close (tie.spec trial-requires settle-requires returns)
+step-spec = tie.close (tie.spec add-put put-requires evaluated-requires settle-requires returns)

@@ -1,0 +1,25 @@
+-- Assumes nothing.
+use Rattle.search.proofs.Turns.{family-held, assembly}
+use borrow.Author.Needs.{needs}
+use Rattle.search.proofs.evaluated.Statement.{statement}
+use Rattle.search.proofs.evaluated.Tie as tie
+use Rattle.search.proofs.evaluated.Reads as reads
+use Rattle.search.proofs.evaluated.Lts as lts
+use Rattle.mapping.proofs.evaluate.Reads as evaluate-reads
+use Rattle.switching.proofs.switch.Reads as switch-reads
+
+switch-requires : tie.Need-switch-requires
+switch-requires c κs = search needs
+
+evaluate-requires : tie.Need-evaluate-requires
+evaluate-requires c κs =
+    let s = c .before .before .before .before .pre in
+    (family-held _ _ _ _ (s .0) _ _ (c .before .before .switch .ensures), s .1 .lent)
+
+returns : tie.Need-returns
+returns c =
+    let s = c .before .before .before .before .before .pre in
+    assembly _ _ _ _ (s .0) _ _ (c .before .before .before .switch .ensures) _ _ (c .evaluate .ensures .0) (c .evaluate .ensures .1)
+
+pub evaluated-spec : {M : Type 1} → statement M
+evaluated-spec = tie.close (tie.spec switch-requires evaluate-requires returns)
