@@ -6,7 +6,7 @@ use mathlib.Core.Path.{_≡_, refl, sym, ap, _∙_}
 use mathlib.Core.Bool.{true, false}
 use mathlib.Core.List.{List, [], _∷_, _++_, append-assoc, append-nil}
 use lib.ListN.{length, getD, take, drop, set, replicate, length-append, length-take, length-drop, List·getD-eq-default}
-use lib.Seq.{take-nil, take-take, drop-drop, getD-take, getD-drop, take-add, take-at, drop-at, take-all, take-suc-set, drop-cons, set-at, append-snoc}
+use lib.Seq.{take-nil, take-take, drop-drop, getD-take, getD-drop, take-add, take-at, drop-at, drop-cons, set-at, append-snoc}
 use lib.Dec.{eqb, lit<}
 use native.Mathlib.Nat.{add-zero, zero-add, suc-add, min-le-right}
 use native.Mathlib.Numerals.{add-one}
@@ -15,16 +15,15 @@ use borrow.Author.Tests.{eq-eqb, ne-eqb, eqb-true, eqb-false}
 use borrow.Rule.Slice.PartMut.{putMid}
 use Rattle.finite.proofs.Cases.{byBool, byEq}
 use Rattle.columns.specs.Fields.{columns, six, spells, fieldAt, FieldIs}
-use Rattle.columns.specs.Lines.{fieldCount, lineLength, fieldsOf, lineOf, Small, malformed, endAt, andThen, restAt, lineAt, LineIs, written, put}
+use Rattle.columns.specs.Lines.{fieldCount, lineLength, fieldsOf, lineOf, Small, Reading, malformed, endAt, andThen, restAt, lineAt, LineIs, written, put}
 use Rattle.columns.specs.declared.Cursor.{Cursor}
 use Rattle.columns.specs.declared.Field.{Field}
 use Rattle.columns.specs.declared.Field.the-variants.{Number, Malformed as noNumber}
 use Rattle.columns.specs.declared.End.{End}
 use Rattle.columns.specs.declared.End.the-variants.{After, Malformed}
-use Rattle.columns.specs.declared.Reading.{Reading}
 use Rattle.columns.proofs.Columns.{length-columns}
 use Rattle.columns.proofs.Fields.{field-is, columns-spelled, spelled-columns, one-number}
-use Rattle.columns.proofs.Writing.{lent, put-written, length-written}
+use Rattle.columns.proofs.Writing.{lent, put-nil, put-set, put-over, put-written, length-written}
 
 -- the bytes of fields and of a line
 length-fields : (k : ℕ) (ns : List ℕ) → length (fieldsOf k ns) ≡ 6 * k
@@ -170,36 +169,79 @@ line-room s at ns t =
     let l : min lineLength (length s - at) ≡ lineLength = simp (length-take, length-drop, length-line) at (ap length t) in
     omega (arith, min-le-right lineLength (length s - at))
 
--- the turns of the loop that reads: the rest of the line, from the fields read so far
-pub read-turn : (s : List ℕ) (q i n : ℕ) (l : List ℕ) (r : Field) (c : Cursor) → i < fieldCount → length l ≡ fieldCount → r ≡ fieldAt s q → r ≡ Number n c
-    → restAt (fieldCount - i) s q (take i l) ≡ restAt (fieldCount - (i + 1)) s (c .at) (take (i + 1) (set l i n))
-unfolding restAt
-read-turn s q i n l r c h e er ec =
-    let k : fieldCount - i ≡ suc (fieldCount - (i + 1)) = omega arith in
-    rw (k, ← er, ec, add-one i, take-suc-set l i n (omega arith))
+-- how a line ends after its last field
+ended : {c : Cursor} → After c ≡ Malformed → ⊥
+ended e = let z : _≡_ {A = ℕ} 0 1 = cc in omega arith
 
-pub read-stop : (s : List ℕ) (q i : ℕ) (l : List ℕ) (r : Field) → i < fieldCount → r ≡ fieldAt s q → r ≡ noNumber → restAt (fieldCount - i) s q l ≡ malformed
-unfolding restAt
-read-stop s q i l r h er en =
-    let k : fieldCount - i ≡ suc (fieldCount - (i + 1)) = omega arith in
-    rw (k, ← er, en)
-
-pub read-done : (s : List ℕ) (q i : ℕ) (l : List ℕ) → i ≤ fieldCount → fieldCount ≤ i → length l ≡ fieldCount → restAt (fieldCount - i) s q (take i l) ≡ endAt s q l
-unfolding restAt
-read-done s q i l a b e =
-    let k : i ≡ fieldCount = omega arith in
-    rw (k, take-all fieldCount l (omega arith))
-
-pub line-feed : (s : List ℕ) (at : ℕ) (ns : List ℕ) → getD s at 0 ≡ 10 → record { line = ns; end = After (record { at = at + 1 }) } ≡ endAt s at ns
+pub line-feed : (s : List ℕ) (at : ℕ) → getD s at 0 ≡ 10 → After (record { at = at + 1 }) ≡ endAt s at [] .end
 unfolding endAt
-line-feed s at ns e = rw (eq-eqb _ _ e)
+line-feed s at e = rw (eq-eqb _ _ e)
 
-pub no-line-feed : (s : List ℕ) (at : ℕ) (ns : List ℕ) (r : Reading) → r ≡ malformed → (getD s at 0 ≡ 10 → ⊥) → r ≡ endAt s at ns
+pub no-line-feed : (s : List ℕ) (at : ℕ) → (getD s at 0 ≡ 10 → ⊥) → Malformed ≡ endAt s at [] .end
+unfolding endAt malformed
+no-line-feed s at d = rw (ne-eqb _ _ d)
+
+pub past-end : (s : List ℕ) (at : ℕ) → length s ≤ at → Malformed ≡ endAt s at [] .end
+past-end s at l = no-line-feed s at (λ q. omega (arith, List·getD-eq-default s 0 {n = at} l))
+
+-- the numbers do not change how it ends
+end-after : (s : List ℕ) (at : ℕ) (ns : List ℕ) (c : Cursor) → endAt s at [] .end ≡ After c → endAt s at ns ≡ record { line = ns; end = After c }
+unfolding endAt malformed
+end-after s at ns c e = byBool (eqb (getD s at 0) 10) (λ t. rw t (ap (λ (d : End). record { line = ns; end = d }) (rw t at e))) (λ t. absurd (ended (sym (rw t at e))))
+
+no-end : (s : List ℕ) (at : ℕ) (ns : List ℕ) → endAt s at [] .end ≡ Malformed → endAt s at ns ≡ malformed
 unfolding endAt
-no-line-feed s at ns r e d = rw (ne-eqb _ _ d, e)
+no-end s at ns e = byBool (eqb (getD s at 0) 10) (λ t. absurd (ended (rw t at e))) (λ t. rw t)
 
-pub past-end : (s : List ℕ) (at : ℕ) (ns : List ℕ) (r : Reading) → r ≡ malformed → length s ≤ at → r ≡ endAt s at ns
-past-end s at ns r e l = no-line-feed s at ns r e (λ q. omega (arith, List·getD-eq-default s 0 {n = at} l))
+-- the loop that reads, at the cursor q: the first i numbers of the line stand at their place of what is lent, and the rest of the line follows
+pub record Read (s : List ℕ) (start : ℕ) (d : List ℕ) (place q i : ℕ) (numbers : List ℕ) : Type 0 where
+  pub first : List ℕ
+  pub many : length first ≡ i
+  pub stand : numbers ≡ put d place first
+  pub rest-of : lineAt s start ≡ restAt (fieldCount - i) s q first
+
+pub read-start : (s : List ℕ) (start : ℕ) (d : List ℕ) (place : ℕ) → Read s start d place start 0 d
+unfolding lineAt
+read-start s start d place = record { first = []; many = refl; stand = put-nil d place; rest-of = refl }
+
+-- what is told of a line: how it ends, and its numbers at the place
+abbrev pub Told : List ℕ → ℕ → List ℕ → ℕ → End → List ℕ → Type 0
+Told s start d place r e = (r ≡ lineAt s start .end) × (e ≡ put d place (lineAt s start .line))
+
+module _ {s d numbers : List ℕ} {start place q i : ℕ} (room : place + fieldCount ≤ length d) (x : Read s start d place q i numbers) where
+  pub read-turn : (n : ℕ) (r : Field) (c : Cursor) → i < fieldCount → r ≡ fieldAt s q → r ≡ Number n c → Read s start d place (c .at) (i + 1) (set numbers (place + i) n)
+  unfolding restAt
+  read-turn n r c h e ec =
+      let k : fieldCount - i ≡ suc (fieldCount - (i + 1)) = omega arith in
+      record {
+        first = x .first ++ (n ∷ []);
+        many = length-append (x .first) (n ∷ []) ∙ omega (arith, x .many);
+        stand = rw (x .stand) (put-set d (x .first) place i n (x .many) (omega arith));
+        rest-of = x .rest-of ∙ rw (k, ← e, ec);
+      }
+
+  -- a line that is not one: what was put is put over
+  no-line-told : (r : End) (e : List ℕ) → i ≤ fieldCount → lineAt s start ≡ malformed → r ≡ malformed .end → e ≡ put numbers place (malformed .line) → Told s start d place r e
+  unfolding malformed
+  no-line-told r e h em er ee = rw em (er, ee ∙ rw (x .stand) (put-over d (x .first) (replicate fieldCount 0) place (omega arith) (omega (arith, x .many))))
+
+  pub read-stop : (t : Field) (r : End) (e : List ℕ) → i < fieldCount → t ≡ fieldAt s q → t ≡ noNumber → r ≡ malformed .end → e ≡ put numbers place (malformed .line)
+      → Told s start d place r e
+  unfolding restAt
+  read-stop t r e h et en =
+      let k : fieldCount - i ≡ suc (fieldCount - (i + 1)) = omega arith in
+      no-line-told r e (omega arith) (x .rest-of ∙ rw (k, ← et, en))
+
+  read-all : i ≤ fieldCount → fieldCount ≤ i → lineAt s start ≡ endAt s q (x .first)
+  unfolding restAt
+  read-all a b = let k : i ≡ fieldCount = omega arith in x .rest-of ∙ rw k
+
+  pub read-unended : (t r : End) (e : List ℕ) → i ≤ fieldCount → fieldCount ≤ i → t ≡ endAt s q [] .end → t ≡ Malformed → r ≡ malformed .end
+      → e ≡ put numbers place (malformed .line) → Told s start d place r e
+  read-unended t r e a b et em = no-line-told r e a (read-all a b ∙ no-end s q (x .first) (sym et ∙ em))
+
+  pub read-done : (t : End) (c : Cursor) → i ≤ fieldCount → fieldCount ≤ i → t ≡ endAt s q [] .end → t ≡ After c → Told s start d place (After c) numbers
+  read-done t c a b et ec = rw (read-all a b, end-after s q (x .first) c (sym et ∙ ec)) (refl, x .stand)
 
 -- the turn of the loop that writes: the part from the next field on is lent, and comes back with the field written
 pub write-turn : (d out y line : List ℕ) (at i : ℕ) → at ≡ 6 * i → i < fieldCount → lineLength ≤ length d → length out ≡ length d
@@ -237,9 +279,6 @@ length-rest (suc k) s at ns e = go (fieldAt s at) (λ q n. length-rest k s q (ns
 pub length-read : (s : List ℕ) (at : ℕ) → length (lineAt s at .line) ≡ fieldCount
 unfolding lineAt
 length-read s at = length-rest fieldCount s at [] refl
-
-ended : {c : Cursor} → After c ≡ Malformed → ⊥
-ended e = let z : _≡_ {A = ℕ} 0 1 = cc in omega arith
 
 malformed-rest : (k : ℕ) (s : List ℕ) (at : ℕ) (ns : List ℕ) → restAt k s at ns .end ≡ Malformed → restAt k s at ns ≡ malformed
 unfolding restAt endAt

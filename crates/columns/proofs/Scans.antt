@@ -2,7 +2,8 @@
 -- a byte that does not fit leaves no number (`misfit`). Each column is met by its place value: the digits before it, it, and what is behind.
 -- Assumes nothing.
 use Prim.Native.Nat.{ℕ, zero, suc, _+_, _-_, _*_, _/_, _%_, _≤_, _<_}
-use mathlib.Core.Path.{_≡_, refl, sym, _∙_}
+use mathlib.Core.Path.{_≡_, refl, sym, ap, _∙_}
+use mathlib.Core.Logic.{_↔_}
 use mathlib.Core.Bool.{true, false, cond}
 use mathlib.Core.List.{List, [], _∷_}
 use lib.ListN.{length, getD}
@@ -12,7 +13,7 @@ use native.Mathlib.Omega.{arith}
 use borrow.Author.Tests.{ltb-false, eqb-true, eqb-false, lt-ltb, le-ltb, ne-eqb}
 use Rattle.finite.proofs.Cases.{byBool, byEq, byLess, clash}
 use Rattle.columns.specs.Fields.{columns, placeValue, columnOf, digitOf, worthOf, six, fieldAt}
-use Rattle.columns.specs.Scans.{frontCount, Blank, digit, opening, fitting}
+use Rattle.columns.specs.Scans.{frontCount, Blank, twoSpaces, digit, opening, fitting}
 use Rattle.columns.specs.declared.Field.the-variants.{Number, Malformed}
 use Rattle.columns.proofs.Columns.{columns-are, below-six, space, shown, six-at}
 use Rattle.columns.proofs.Fields.{digit-small, mod-ten, column-digit, spelled-columns, found, agrees, only-field, worth-bound, worth-turn}
@@ -186,23 +187,38 @@ blank-number s at k h b = sym (blank-worth s at k h b k (omega arith))
 pub blank-fits : (s : List ℕ) (at k : ℕ) → k < 6 → Blank s at k → (j : ℕ) → j < k → fitting (getD s (at + j) 0) (worthOf (six s at) j) (5 - j) ≡ true
 blank-fits s at k h b j l = rw (blank-worth s at k h b j (omega arith), b .spaces j l) (space-fits (5 - j) (λ q. omega arith))
 
--- four bytes that make the number of four spaces are spaces, and the other way round
-pub front-blank : (s : List ℕ) (at a b c d : ℕ) → a ≡ getD s at 0 → b ≡ getD s (at + 1) 0 → c ≡ getD s (at + 2) 0 → d ≡ getD s (at + 3) 0
-    → a < 256 → b < 256 → c < 256 → d < 256 → a + 256 * b + 65536 * (c + 256 * d) ≡ 538976288 → Blank s at frontCount
-front-blank s at a b c d ea eb ec ed la lb lc ld e = record { spaces = each }
-  where
-    each : (j : ℕ) → j < frontCount → getD s (at + j) 0 ≡ 32
-    each zero h = rw (add-zero at) (omega arith)
-    each (suc zero) h = omega arith
-    each (suc (suc zero)) h = omega arith
-    each (suc (suc (suc zero))) h = omega arith
-    each (suc (suc (suc (suc j)))) h = absurd (omega arith)
+-- columns that are spaces, and those behind them
+blank-more : (s : List ℕ) (at j k : ℕ) → Blank s at j → Blank s (at + j) k → Blank s at (j + k)
+blank-more s at j k a b = record {
+  spaces = λ i h. byLess i j (a .spaces i)
+      (λ l. ap (λ (q : ℕ). getD s q 0) (omega arith) ∙ b .spaces (i - j) (omega arith));
+}
 
-pub blank-front : (s : List ℕ) (at a b c d : ℕ) → a ≡ getD s at 0 → b ≡ getD s (at + 1) 0 → c ≡ getD s (at + 2) 0 → d ≡ getD s (at + 3) 0
-    → Blank s at frontCount → a + 256 * b + 65536 * (c + 256 * d) ≡ 538976288
-blank-front s at a b c d ea eb ec ed h =
-    let e : getD s (at + 0) 0 ≡ 32 = h .spaces 0 (lit< tt) in
-    omega (arith, rw (add-zero at) at e, h .spaces 1 (lit< tt), h .spaces 2 (lit< tt), h .spaces 3 (lit< tt))
+blank-first : (s : List ℕ) (at j k : ℕ) → Blank s at (j + k) → Blank s at j
+blank-first s at j k b = record { spaces = λ i h. b .spaces i (omega arith) }
+
+blank-behind : (s : List ℕ) (at j k : ℕ) → Blank s at (j + k) → Blank s (at + j) k
+blank-behind s at j k b = record { spaces = λ i h. ap (λ (q : ℕ). getD s q 0) (omega arith) ∙ b .spaces (j + i) (omega arith) }
+
+-- two bytes that make the number of two spaces are spaces, and the other way round
+pub pair-blank : (s : List ℕ) (at a b : ℕ) → a ≡ getD s at 0 → b ≡ getD s (at + 1) 0 → a < 256 → b < 256 → (a + 256 * b ≡ twoSpaces) ↔ Blank s at 2
+pair-blank s at a b ea eb la lb = (
+  λ e. record { spaces = each e },
+  λ h. let e : getD s (at + 0) 0 ≡ 32 = h .spaces 0 (lit< tt) in omega (arith, rw (add-zero at) at e, h .spaces 1 (lit< tt)),
+)
+  where
+    each : a + 256 * b ≡ twoSpaces → (j : ℕ) → j < 2 → getD s (at + j) 0 ≡ 32
+    each e zero h = rw (add-zero at) (omega arith)
+    each e (suc zero) h = omega arith
+    each e (suc (suc j)) h = absurd (omega arith)
+
+-- and so are two pairs of them
+pub front-blank : (s : List ℕ) (at low high : ℕ) → (low ≡ twoSpaces) ↔ Blank s at 2 → (high ≡ twoSpaces) ↔ Blank s (at + 2) 2 → low < 65536
+    → (low + 65536 * high ≡ twoSpaces + 65536 * twoSpaces) ↔ Blank s at frontCount
+front-blank s at low high el eh room = (
+  λ e. blank-more s at 2 2 (el .0 (omega arith)) (eh .0 (omega arith)),
+  λ b. omega (arith, el .1 (blank-first s at 2 2 b), eh .1 (blank-behind s at 2 2 b)),
+)
 
 -- a turn of the loop that reads: the value of a byte that fits, and what the columns are worth with it
 pub value-small : (b w k v : ℕ) → fitting b w k ≡ true → v ≡ b % 16 → v ≤ 9

@@ -1,12 +1,11 @@
 -- Writing into the front of a part that is lent. A loop keeps "what is written so far, then the rest as it was" (`written`); a part `&mut d[at..]`
 -- that comes back written is the whole written at `at` (`lent`), and writing twice one after the other is writing both (`put-written`).
 -- Assumes nothing.
-use Prim.Native.Nat.{ℕ, zero, suc, _+_, _-_, _≤_, _<_}
+use Prim.Native.Nat.{ℕ, suc, _+_, _-_, _≤_, _<_}
 use mathlib.Core.Path.{_≡_, refl, sym, ap, _∙_}
-use mathlib.Core.List.{List, [], _++_, append-assoc, append-nil}
-use lib.ListN.{length, getD, take, drop, set, replicate, length-append, length-drop, take-append-drop, drop-of-length-le}
-use lib.Seq.{paste, paste-zero, paste-suc, take-at, drop-at, take-all, drop-drop, length-take-le, getD-drop}
-use native.Mathlib.Nat.{zero-add}
+use mathlib.Core.List.{List, [], _∷_, _++_, append-assoc, append-nil}
+use lib.ListN.{length, getD, take, drop, set, replicate, length-append, length-drop, length-replicate, getD-replicate, take-append-drop, drop-of-length-le}
+use lib.Seq.{paste, paste-zero, paste-suc, take-at, drop-at, take-all, set-split, drop-append-add, drop-drop, length-take-le, getD-drop}
 use native.Mathlib.Numerals.{add-one}
 use native.Mathlib.Omega.{arith}
 use borrow.Author.Tests.{lt-ltb}
@@ -51,6 +50,24 @@ put-put d at next p bs h e =
     rw (f, take-at (take at d ++ p) (drop (length p) (drop at d)) next l, drop-at (take at d ++ p) (drop (length p) (drop at d)) next l, drop-drop, length-append)
     (simp append-assoc)
 
+-- one element more, behind the others
+set-put : (x : List ℕ) (k n : ℕ) → k < length x → set x k n ≡ put x k (n ∷ [])
+unfolding put written
+set-put x k n h = set-split x k n h ∙ rw (drop-drop, add-one)
+
+pub put-set : (d ns : List ℕ) (at i n : ℕ) → length ns ≡ i → at + i < length d → set (put d at ns) (at + i) n ≡ put d at (ns ++ (n ∷ []))
+put-set d ns at i n e h = set-put (put d at ns) (at + i) n (omega (arith, length-put d at ns (omega arith))) ∙ put-put d at (at + i) ns (n ∷ []) (omega arith) (omega arith)
+
+-- what is put over another piece covers it, if it is no shorter
+pub put-over : (d p q : List ℕ) (at : ℕ) → at ≤ length d → length p ≤ length q → put (put d at p) at q ≡ put d at q
+unfolding put written
+put-over d p q at h l =
+    let t : length (take at d) ≡ at = length-take-le at d h in
+    let k : length q ≡ length p + (length q - length p) = omega arith in
+    let c : drop (length q) (p ++ drop (length p) (drop at d)) ≡ drop (length q) (drop at d) =
+    rw k (drop-append-add p (drop (length p) (drop at d)) (length q - length p) ∙ drop-drop (length q - length p) (length p) (drop at d)) in
+    rw (take-at (take at d) (p ++ drop (length p) (drop at d)) at t, drop-at (take at d) (p ++ drop (length p) (drop at d)) at t, c)
+
 -- a part from `at` to the end that comes back with bs written: the whole has bs put at `at`
 pub lent : (d e : List ℕ) (at : ℕ) (bs : List ℕ) → at ≤ length d
     → e ≡ written (take (length d - at) (drop at d)) bs → putMid at (length d - at) d e ≡ put d at bs
@@ -70,16 +87,10 @@ pub paste-done : (d out bs : List ℕ) (at j : ℕ) → j ≡ length bs → out 
 unfolding put written
 paste-done d out bs at j e eo = rw (eo, e, take-all (length bs) bs (omega arith), ← drop-drop (length bs) at d) (append-assoc (take at d) bs (drop (length bs) (drop at d)))
 
--- the same for the spaces of the front columns, and for the columns of a number from one on
-space-at : (i : ℕ) → i < frontCount → _≡_ {A = ℕ} (getD (replicate frontCount 32) i 0) 32
-space-at zero h = refl
-space-at (suc zero) h = refl
-space-at (suc (suc zero)) h = refl
-space-at (suc (suc (suc zero))) h = refl
-space-at (suc (suc (suc (suc i)))) h = absurd (omega arith)
-
-pub spaces-turn : (d out : List ℕ) (i : ℕ) → 6 ≤ length d → i < frontCount → out ≡ paste d 0 (replicate frontCount 32) i → set out i 32 ≡ paste d 0 (replicate frontCount 32) (i + 1)
-spaces-turn d out i room h eo = rw (add-one i) (paste-turn d out (replicate frontCount 32) 0 i i 32 (sym (zero-add i)) (omega arith) h eo (sym (space-at i h)))
+-- the same for k equal elements, spaces or zeros, and for the columns of a number from one on
+pub repeat-turn : (d out : List ℕ) (x k at j i : ℕ) → i ≡ at + j → at + k ≤ length d → j < k → out ≡ paste d at (replicate k x) j → set out i x ≡ paste d at (replicate k x) (j + 1)
+repeat-turn d out x k at j i ei room h eo =
+    rw (add-one j) (paste-turn d out (replicate k x) at j i x ei (omega arith) (rw length-replicate h) eo (sym (getD-replicate k j x 0 h)))
 
 pub columns-none : (d bs : List ℕ) (first : ℕ) → d ≡ paste d first bs (first - first)
 columns-none d bs first = let e : first - first ≡ 0 = omega arith in rw e (paste-zero d first bs)

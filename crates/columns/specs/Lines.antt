@@ -12,7 +12,6 @@ use Rattle.columns.specs.declared.Field.{Field}
 use Rattle.columns.specs.declared.Field.the-variants.{Number, Malformed as noNumber}
 use Rattle.columns.specs.declared.End.{End}
 use Rattle.columns.specs.declared.End.the-variants.{After, Malformed}
-use Rattle.columns.specs.declared.Reading.{Reading}
 
 -- how many fields a line has: the one place of the specification that says so
 abbrev pub fieldCount : ℕ
@@ -34,6 +33,11 @@ lineOf ns = fieldsOf fieldCount ns ++ (10 ∷ [])
 -- each number has a field
 pub record Small (ns : List ℕ) : Type 0 where
   pub small : (i : ℕ) → getD ns i 0 < 1000000
+
+-- what reading a line comes to: its numbers, all 0 where it is malformed, and where it ends
+pub record Reading : Type 0 where
+  pub line : List ℕ
+  pub end : End
 
 -- the answer where there is no line
 unfoldable pub malformed : Reading

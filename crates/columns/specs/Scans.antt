@@ -1,6 +1,6 @@
 -- Reading a field column by column from the left: which byte may stand in a column, by what the columns before it are worth.
 -- Assumes nothing.
-use Prim.Native.Nat.{ℕ, _+_, _<_}
+use Prim.Native.Nat.{ℕ, _+_, _*_, _<_}
 use mathlib.Core.Path.{_≡_}
 use mathlib.Core.Bool.{Bool, true, false, cond}
 use mathlib.Core.List.{List}
@@ -14,6 +14,10 @@ frontCount = 4
 -- the first k columns at a place of the text are spaces
 pub record Blank (s : List ℕ) (at k : ℕ) : Type 0 where
   pub spaces : (j : ℕ) → j < k → getD s (at + j) 0 ≡ 32
+
+-- two spaces as one number, the byte of the first counting least
+abbrev pub twoSpaces : ℕ
+twoSpaces = 32 + 256 * 32
 
 -- whether a byte is a digit
 unfoldable pub digit : ℕ → Bool

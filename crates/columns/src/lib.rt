@@ -2,11 +2,12 @@
 ghost use mathlib.Core.Path.{_≡_};
 ghost use mathlib.Core.Bool.{true};
 ghost use mathlib.Core.Logic.{_↔_};
+ghost use mathlib.Core.List.{[]};
 ghost use Prim.Native.Nat.{_+_, _*_, _≤_, _<_};
 ghost use lib.ListN.{length, drop, replicate};
 ghost use Rattle.columns.specs.Fields.{columnOf, columns, fieldAt};
-ghost use Rattle.columns.specs.Scans.{frontCount, Blank, digit, opening, fitting};
-ghost use Rattle.columns.specs.Lines.{lineOf, lineLength, lineAt, endAt, malformed, Small, written, put};
+ghost use Rattle.columns.specs.Scans.{frontCount, Blank, twoSpaces, digit, opening, fitting};
+ghost use Rattle.columns.specs.Lines.{fieldCount, lineOf, lineLength, lineAt, endAt, malformed, Small, written, put};
 
 // What each column is worth, the last column first. Both reading and writing go by it.
 const PLACES: [u32; 6] = [1, 10, 100, 1000, 10000, 100000];
@@ -14,8 +15,8 @@ const PLACES: [u32; 6] = [1, 10, 100, 1000, 10000, 100000];
 // The columns in front of the last two. Most numbers are below 100 and have spaces there, which are read and written at once.
 const FRONT: usize = 4;
 
-// Four spaces as one number.
-const SPACES: u32 = 32 * (1 + 256 + 65536 + 16777216);
+// Two spaces as one number.
+const SPACES: u32 = 32 * (1 + 256);
 
 // How many fields a line has: the one place in the code that says so.
 pub const FIELDS: usize = 5;
@@ -38,12 +39,6 @@ pub enum Field {
 pub enum End {
     After(Cursor),
     Malformed,
-}
-
-// A line that was read; all its fields are 0 where it is malformed.
-pub struct Reading {
-    pub line: [u32; FIELDS],
-    pub end: End,
 }
 
 // A byte as a wider number.
@@ -69,14 +64,20 @@ fn column(n: u32, place: usize) -> u8
     digit
 }
 
+// Two columns as one number, so that one comparison tells whether both are spaces.
+fn pair(s: &[u8], at: usize) -> u32
+    requires { ⌜ at + 2 ≤ length (now s) ⌝ }
+    ensures { λ r. ⌜ ((r ≡ twoSpaces) ↔ Blank (now (s .entry)) at 2) × (r < 65536) ⌝ }
+{
+    wide(s[at]) + 256 * wide(s[at + 1])
+}
+
 // Whether the front columns at a position are spaces, by one comparison.
 fn blank_front(s: &[u8], at: usize) -> bool
     requires { ⌜ at + 6 ≤ length (now s) ⌝ }
     ensures { λ r. ⌜ (r ≡ true) ↔ Blank (now (s .entry)) at frontCount ⌝ }
 {
-    let low = wide(s[at]) + 256 * wide(s[at + 1]);
-    let high = wide(s[at + 2]) + 256 * wide(s[at + 3]);
-    if low + 65536 * high != SPACES {
+    if pair(s, at) + 65536 * pair(s, at + 2) != SPACES + 65536 * SPACES {
         return false;
     }
     true
@@ -144,7 +145,7 @@ fn scan(s: &[u8], at: usize, first: usize) -> Field
 }
 
 impl Cursor {
-    // The number in the six columns at the cursor, and the cursor after them.
+    // The number in the six columns at the cursor, and the cursor after them. What is below 100, and below 10,000, is told by the spaces before it.
     pub fn field(self, s: &[u8]) -> Field
         ensures { λ r. ⌜ r ≡ fieldAt (now (s .entry)) (self .at) ⌝ }
     {
@@ -158,53 +159,59 @@ impl Cursor {
         if blank_front(s, at) {
             return scan(s, at, FRONT);
         }
+        if pair(s, at) == SPACES {
+            return scan(s, at, 2);
+        }
         scan(s, at, 0)
     }
 }
 
-// The answer where there is no line.
-fn no_line() -> Reading
-    ensures { λ r. ⌜ r ≡ malformed ⌝ }
+// The answer where there is no line; its numbers are 0.
+fn no_line(numbers: &mut [u32], place: usize) -> End
+    requires { ⌜ place + fieldCount ≤ length (now numbers) ⌝ }
+    ensures { λ r. ⌜ (r ≡ malformed .end) × (now (numbers .exit) ≡ put (now (numbers .entry)) place (malformed .line)) ⌝ }
 {
-    Reading {
-        line: [0u32; FIELDS],
-        end: End::Malformed,
+    let mut i = 0;
+    while i < FIELDS {
+        numbers[place + i] = 0;
+        i += 1;
     }
+    End::Malformed
 }
 
-// The answer after the last field: a line, if a line feed follows.
-fn line_end(s: &[u8], c: Cursor, line: [u32; FIELDS]) -> Reading
-    ensures { λ r. ⌜ r ≡ endAt (now (s .entry)) (c .at) line ⌝ }
+// How a line ends after its last field: behind the line feed, if there is one.
+fn line_end(s: &[u8], c: Cursor) -> End
+    ensures { λ r. ⌜ r ≡ endAt (now (s .entry)) (c .at) [] .end ⌝ }
 {
     let at = c.at;
     if s.len() <= at {
-        return no_line();
+        return End::Malformed;
     }
     if s[at] != b'\n' {
-        return no_line();
+        return End::Malformed;
     }
-    Reading {
-        line,
-        end: End::After(Cursor { at: at + 1 }),
-    }
+    End::After(Cursor { at: at + 1 })
 }
 
-// The line at a cursor, field by field from the left, and the cursor after it.
-pub fn read_line(s: &[u8], start: Cursor) -> Reading
-    ensures { λ r. ⌜ r ≡ lineAt (now (s .entry)) (start .at) ⌝ }
+// The line at a cursor, field by field from the left, its numbers put at a place of what is lent; and the cursor after it.
+pub fn read_line(s: &[u8], start: Cursor, numbers: &mut [u32], place: usize) -> End
+    requires { ⌜ place + fieldCount ≤ length (now numbers) ⌝ }
+    ensures { λ r. ⌜ (r ≡ lineAt (now (s .entry)) (start .at) .end) × (now (numbers .exit) ≡ put (now (numbers .entry)) place (lineAt (now (s .entry)) (start .at) .line)) ⌝ }
 {
-    let mut line = [0u32; FIELDS];
     let mut c = start;
     let mut i = 0;
     while i < FIELDS {
         let Field::Number(n, next) = c.field(s) else {
-            return no_line();
+            return no_line(numbers, place);
         };
-        line[i] = n;
+        numbers[place + i] = n;
         c = next;
         i += 1;
     }
-    line_end(s, c, line)
+    let End::After(after) = line_end(s, c) else {
+        return no_line(numbers, place);
+    };
+    End::After(after)
 }
 
 // Writes spaces into the front columns of what is lent.

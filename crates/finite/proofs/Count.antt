@@ -1,15 +1,16 @@
 -- The laws of counts over 1..n, and that a tree has fewer branchings than half its nodes: each node but the root is the child of one node,
 -- so the numbers of children add up to less than n.
 -- Assumes nothing.
-use mathlib.Core.Path.{_≡_, refl, sym, ap}
+use mathlib.Core.Path.{_≡_, refl, sym, ap, _∙_}
 use mathlib.Core.Logic.{_≢_}
-use mathlib.Core.Bool.{Bool, true, false, _&&_, not, cond}
+use mathlib.Core.Bool.{Bool, true, false, not, _&&_, cond}
 use Prim.Native.Nat.{ℕ, zero, suc, _+_, _*_, _≤_, _<_}
 use native.Mathlib.Omega.{arith}
 use Rattle.finite.specs.Tests.{same, tally}
-use Rattle.finite.specs.Range.{sum, count, children}
+use Rattle.finite.specs.Range.{sum, count, some, children}
 use Rattle.finite.proofs.Cases.{byBool, byEq, clash}
-use Rattle.finite.proofs.Tests.{is-same, not-same, and-l, and-yes, and-no-r, tally-le, tally-imp}
+use Rattle.finite.proofs.Tests.{is-same, not-same, same-not, and-l, and-r, and-yes, and-no-r, not-true, tally-le, tally-imp}
+use Rattle.finite.proofs.Every.{some-at, some-none}
 use Rattle.finite.proofs.Sum.{sum-zero-range, sum-more, sum-same, sum-le, sum-mul, sum-zero, sum-bound, sum-swap, sum-point, sum-at, sum-two, sum-short}
 
 pub count-same : (n : ℕ) (f g : ℕ → Bool) → ((v : ℕ) → 1 ≤ v → v ≤ n → f v ≡ g v) → count n f ≡ count n g
@@ -81,6 +82,21 @@ count-is (suc k) a = byEq a (suc k)
     (λ e. rw (is-same e) (omega (arith, count-zero k (same a) (λ v l u. not-same {m = a} {n = v} (omega arith)))))
     (λ d. rw (not-same d) (omega (arith, count-is k a)))
 
+-- a test that one number alone passes counts 1; where one passes and the count is not 1, another passes too
+pub count-alone : (n a : ℕ) (f : ℕ → Bool) → 1 ≤ a → a ≤ n → f a ≡ true → ((v : ℕ) → 1 ≤ v → v ≤ n → f v ≡ true → v ≡ a) → count n f ≡ 1
+count-alone n a f l u t h = omega (arith, count-some n a f l u t, count-same n f (λ v. f v && same a v) own, count-imp n (λ v. f v && same a v) (same a) (λ v. and-r (f v) (same a v)), count-is n a)
+  where
+    own : (v : ℕ) → 1 ≤ v → v ≤ n → f v ≡ (f v && same a v)
+    own v lv uv = byBool (f v) (λ q. rw (q, is-same (sym (h v lv uv q)))) (λ q. rw q)
+
+abbrev other : ℕ → (ℕ → Bool) → ℕ → Bool
+other a f v = not (same a v) && f v
+
+pub count-another : (n a : ℕ) (f : ℕ → Bool) → 1 ≤ a → a ≤ n → f a ≡ true → count n f ≢ 1 → (v : ℕ) × (1 ≤ v) × (v ≤ n) × (a ≢ v) × (f v ≡ true)
+count-another n a f l u t d = byBool (some n (other a f))
+    (λ q. let r = some-at n (other a f) q in (r .0, r .1, r .2, same-not a (r .0) (not-true (same a (r .0)) (and-l _ (f (r .0)) (r .3))), and-r (not (same a (r .0))) _ (r .3)))
+    (λ q. absurd (d (count-alone n a f l u t (λ v lv uv tv. byEq a v (λ e. sym e) (λ z. clash tv (rw (not-same z) at (some-none n (other a f) q v lv uv)))))))
+
 -- a count that is 0 unless b
 pub count-guarded : (n c : ℕ) (b : Bool) (f : ℕ → Bool) → ((v : ℕ) → f v ≡ true → b ≡ true) → count n f ≤ c → count n f ≤ c * tally b
 count-guarded n c true f h l = omega arith
@@ -137,3 +153,17 @@ pub count-done : (f : ℕ → Bool) (n v r : ℕ) → v ≤ n → n ≤ v → r 
 count-done f n v r a b h = let e : v ≡ n = omega arith in rw e at h
 
 pub ruleset count-loop = (count-start, count-turn, count-done)
+
+-- the turns of a loop that counts the children of x: a is the parent of v + 1, q the tally of the test
+module _ (f : ℕ → ℕ) (x : ℕ) where
+  pub children-start : 0 ≡ children 0 f x
+  unfolding children
+  children-start = count-start _
+
+  pub children-turn : (v r q a : ℕ) → r ≡ children v f x → a ≡ f (v + 1) → q ≡ tally (same a x) → r + q ≡ children (v + 1) f x
+  unfolding children
+  children-turn v r q a h e t = count-turn (λ w. same (f w) x) v r q h (t ∙ ap (λ (b : ℕ). tally (same b x)) e)
+
+  pub children-done : (n v r : ℕ) → v ≤ n → n ≤ v → r ≡ children v f x → r ≡ children n f x
+  unfolding children
+  children-done n v r a b h = count-done (λ w. same (f w) x) n v r a b h

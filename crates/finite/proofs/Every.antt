@@ -136,6 +136,10 @@ every-done f n v a b h = let e : v ≡ n = omega arith in sym (rw e at h)
 
 pub ruleset every-loop = (every-start, every-turn, every-stop, every-turn-not, every-stop-not, every-done)
 
+-- where none passes, each fails
+pub some-none : (n : ℕ) (f : ℕ → Bool) → some n f ≡ false → (v : ℕ) → 1 ≤ v → v ≤ n → f v ≡ false
+some-none n f e v l u = byBool (f v) (λ t. clash (is-some n v f l u t) e) (λ t. t)
+
 -- the turns of a loop that looks for one of 1..n that passes: r is the test at v + 1
 pub some-start : (f : ℕ → Bool) → some 0 f ≡ false
 unfolding some

@@ -1,13 +1,18 @@
 -- What the verdict of a list of refusals tells: the first whose condition holds, or that none does. Each refusal's test tells its condition, so that the
 -- walk along the tests is the walk along the conditions.
 -- Assumes nothing.
-use Prim.Native.Nat.{ℕ}
+use Prim.Native.Nat.{ℕ, _≤_}
 use mathlib.Core.Path.{_≡_, refl, sym, _∙_}
-use mathlib.Core.Logic.{_≢_}
+use mathlib.Core.Logic.{_≢_, _↔_}
 use mathlib.Core.Bool.{Bool, true, false}
 use mathlib.Core.List.{List, [], _∷_, _++_}
+use native.Mathlib.Omega.{arith}
 use Rattle.finite.specs.Refusals.{Refusal, verdict, First, here, later, NoneApplies, end, passed, Tells, AllTell, no-more, one-more}
 use Rattle.finite.proofs.Cases.{byBool, byEq, clash}
+
+pub verdict-end : verdict [] ≡ 0
+unfolding verdict
+verdict-end = refl
 
 module _ (r : Refusal) (rs : List Refusal) where
   pub verdict-here : r .test ≡ true → verdict (r ∷ rs) ≡ r .number
@@ -18,10 +23,18 @@ module _ (r : Refusal) (rs : List Refusal) where
   unfolding verdict
   verdict-later t = rw t
 
+  -- a verdict of 0: its test fails, and so do the others
+  pub verdict-none : r .number ≢ 0 → verdict (r ∷ rs) ≡ 0 → (r .test ≡ false) × (verdict rs ≡ 0)
+  verdict-none d e = byBool (r .test) (λ t. absurd (d (sym (verdict-here t) ∙ e))) (λ t. (t, sym (verdict-later t) ∙ e))
+
 -- `byBool` one universe up: a list of refusals holds types
 byTest : {A : Type 1} (b : Bool) → (b ≡ true → A) → (b ≡ false → A) → A
 byTest true y n = y refl
 byTest false y n = n refl
+
+-- a refusal whose test and condition come to the same
+pub tell : (k : ℕ) {t : Bool} {P : Type 0} → 1 ≤ k → (t ≡ true) ↔ P → Tells (record { number = k; test = t; condition = P })
+tell k l h = record { some = λ e. omega arith; yes = h .0; refused = h .1 }
 
 denied : {r : Refusal} → Tells r → r .test ≡ false → ¬ (r .condition)
 denied t f c = clash (t .refused c) f

@@ -1,6 +1,6 @@
 -- The laws of tests: what a test that passed or failed says, and what makes it pass or fail. The rulesets at the end are for `search`.
 -- Assumes nothing.
-use mathlib.Core.Path.{_≡_, refl, sym, _∙_}
+use mathlib.Core.Path.{_≡_, refl, sym, _∙_, ap}
 use mathlib.Core.Logic.{_≢_}
 use mathlib.Core.Bool.{Bool, true, false, cond, not, _&&_, _||_, Bool·beq}
 use Prim.Native.Nat.{ℕ, _%_, _≤_, _<_}
@@ -147,6 +147,16 @@ told-same r x k e q = is-same (sym e ∙ q)
 pub told-other : (r x k : ℕ) → r ≡ x → (r ≡ k → ⊥) → same x k ≡ false
 told-other r x k e q = not-same (λ h. q (e ∙ h))
 
+-- what a function answers with a last test, the tests before it being settled
+pub or-rest : (a b r : Bool) → a ≡ false → r ≡ b → r ≡ (a || b)
+or-rest a b r e q = rw e q
+
+pub and-rest : (a b r : Bool) → a ≡ true → r ≡ b → r ≡ (a && b)
+and-rest a b r e q = rw e q
+
+pub not-rest : (a r : Bool) → r ≡ a → not r ≡ not a
+not-rest a r e = ap not e
+
 -- the count of one test
 pub tally-le : (b : Bool) → tally b ≤ 1
 tally-le true = omega arith
@@ -165,6 +175,8 @@ tally-imp false b h = omega arith
 pub ruleset told-laws = (told, told-not-yes, told-not-no, told-same, told-other)
 
 pub ruleset test-laws = (and-no-l, and-no-r, and-yes, or-yes-l, or-yes-r, or-no, not-yes, not-no, cond-yes, cond-no, is-same, not-same, is-under, not-under)
+
+pub ruleset rest-laws = (or-rest, and-rest, not-rest, and-no-l, and-no-r, and-yes, or-yes-l, or-yes-r, or-no, not-yes, not-no, is-same, not-same, is-under, not-under)
 
 pub ruleset pick-laws = (pick-yes, pick-no, told, told-not-yes, told-not-no)
 

@@ -34,7 +34,7 @@ pub record Tells (r : Refusal) : Type 0 where
   pub yes : r .test ≡ true → r .condition
   pub refused : r .condition → r .test ≡ true
 
--- each of a list, where the tests before it have failed: what a later refusal asks may make sense only then
+-- each test tells its condition where those before it have failed
 pub data AllTell : List Refusal → Type 1 where
   no-more : AllTell []
   one-more : {r : Refusal} {rs : List Refusal} → Tells r → (r .test ≡ false → AllTell rs) → AllTell (r ∷ rs)

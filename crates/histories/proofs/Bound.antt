@@ -8,7 +8,7 @@ use native.Mathlib.Nat.{mul-le-mul-left, mul-le-mul-right, mul-le-mul, mul-suc, 
 use native.Mathlib.Omega.{arith}
 use Rattle.histories.specs.Histories.{pair, Family, least}
 use Rattle.histories.specs.Histories.{History, rest, duplicate, speciate, speciateLose, transferStay, transferPart, transferLose, pass, cost}
-use Rattle.histories.specs.Grades.{Graded}
+use Rattle.histories.specs.Grades.{Graded, Limits}
 use Rattle.histories.proofs.Costs.{reach}
 use Rattle.histories.proofs.Least.{one-end, two-ends, mixed-ends, least-sound}
 
@@ -83,9 +83,9 @@ module _ (F : Family) where
     cost-bound U du tu h = le-trans (by-steps U du tu h) (mul-le-mul-left U (few-steps h))
 
     -- within the limits of 01 a least cost is far below the word for no history
-    pub least-bound : F .nodes ≤ 127 → F .genes ≤ 127 → duplication ≤ 99 → transfer ≤ 99 → loss ≤ 99 → (g v c : ℕ) → least F g v ≡ some c → c ≤ 3244032
-    least-bound hn hm d t l g v c e =
+    pub least-bound : Limits F → (g v c : ℕ) → least F g v ≡ some c → c ≤ 3244032
+    least-bound lim g v c e =
         let q = reach (least-sound F ok g v) c e in
-        let w = cost-bound 198 (omega arith) (omega arith) (q .0) in
+        let w = cost-bound 198 (omega (arith, lim .duplication)) (omega (arith, lim .transfer, lim .loss)) (q .0) in
         let y : size g * suc (height v) ≤ 128 * 128 = mul-le-mul {n₂ = 128} {m₂ = 128} (omega (arith, ok .size-le g)) (omega (arith, ok .height-le v)) in
         omega (arith, q .1)

@@ -8,11 +8,12 @@ use Prim.Native.Nat.{ℕ, zero, suc, _+_, _-_, _*_, _/_, _%_, _≤_, _<_}
 use native.Mathlib.Nat.{mul-le-mul-right, suc-mul, add-zero, div-lt-iff-lt-mul}
 use native.Mathlib.Nat.{div-add-mod', mod-lt}
 use native.Mathlib.Omega.{arith}
-use lib.ListN.{getD, length, set, take, drop, length-append, length-drop, List·getD-append}
-use lib.Seq.{getD-set-same, getD-set-other, getD-append-add, getD-drop, ext-getD, take-all}
+use lib.ListN.{getD, length, set, drop, length-append, length-drop, List·getD-append}
+use lib.Seq.{getD-set-same, getD-set-other, getD-append-add, getD-drop, ext-getD}
 use Rattle.finite.proofs.Cases.{byEq, byLess, byOrder}
 use Rattle.histories.specs.Histories.{Family, least}
-use Rattle.histories.specs.Words.{word, costOf, cell, row, costAt, Rows, Kept, listed, wordAt, words}
+use Rattle.histories.specs.Words.{word, costOf, cell, listed, wordAt, words}
+use Rattle.histories.specs.Rows.{row, costAt, Rows, Kept}
 use Rattle.histories.proofs.Words.{word-cost}
 
 before : (g n : ℕ) → (suc g - 1) * n ≡ g * n
@@ -54,9 +55,6 @@ row-there n s g v h u w lg lh lv uv lu uu d = ap costOf (getD-set-other s (cell 
 pub row-costs : (n : ℕ) (s : List ℕ) (g r : ℕ) → r ≡ (g - 1) * n → costAt (drop r s) ≡ row n s g
 unfolding costAt row cell
 row-costs n s g r e = fun-ext (λ v. ap costOf (rw e (getD-drop ((g - 1) * n) s (v - 1) 0)))
-
-pub row-part : (s : List ℕ) (r : ℕ) → take (length s - r) (drop r s) ≡ drop r s
-row-part s r = take-all (length s - r) (drop r s) (omega (arith, length-drop r s))
 
 length-listed : (f : ℕ → ℕ) (a k : ℕ) → length (listed f a k) ≡ k
 unfolding listed

@@ -5,8 +5,6 @@ pub mod Words
 pub mod Cells
 pub mod Clauses
 pub mod Filling
-pub mod Starts
-pub mod Orders
 pub mod Sizes
 pub mod Accepted
 pub mod Small

@@ -1,22 +1,19 @@
 -- How many genes lie below a gene: those below its two children are apart, for of two genes above a third one is above the other.
 -- Assumes nothing.
-use mathlib.Core.Path.{_≡_, refl, sym, _∙_}
+use mathlib.Core.Path.{_≡_, refl, sym}
 use mathlib.Core.Logic.{_≢_, _⊎_, inl, inr, ⊎-elim}
 use mathlib.Core.Bool.{Bool, true, false, _&&_, not}
-use mathlib.Core.List.{List}
 use Prim.Native.Nat.{ℕ, suc, _+_, _≤_, _<_}
 use native.Mathlib.Omega.{arith}
 use Rattle.finite.specs.Tests.{same, tally}
 use Rattle.finite.specs.Range.{count}
-use Rattle.finite.specs.Tables.{at, within}
-use Rattle.finite.proofs.Cases.{byEq, byBool, byLess, clash}
+use Rattle.finite.proofs.Cases.{byEq, byBool, clash}
 use Rattle.finite.proofs.Tests.{and-l, and-yes, and-no-r, is-same, not-same, not-yes, not-no, tally-yes, tally-no, tally-imp}
 use Rattle.finite.proofs.Sum.{sum-add, sum-le}
 use Rattle.finite.proofs.Count.{count-less, count-le}
-use Rattle.finite.proofs.Tables.{within-in, within-zero, within-out}
 use Rattle.topology.specs.Climbing.{Falls, over}
 use Rattle.topology.proofs.Climbing.{climb-ind, over-self, over-up, over-not, over-zero, over-cases, over-trans, over-low}
-use Rattle.histories.specs.Accepted.{Kinship}
+use Rattle.reconciliation.specs.GeneTrees.{GeneTree, Rooted}
 
 -- a gene's own number bounds the way up from it
 abbrev number : ℕ → ℕ
@@ -41,16 +38,18 @@ module _ (up : ℕ → ℕ) (f : Falls number up) where
           let l : g < a = rw ea at (f .fall a na) in
           byEq a g (λ e. omega arith) (λ e. omega (arith, over-low number up f a g q e))
 
-module _ (m : ℕ) (left right : List ℕ) (k : Kinship m left right) where
-  up : ℕ → ℕ
-  up = within m (k .parent)
+module _ (G : GeneTree) (t : Rooted G) where
+  open GeneTree G using (left, right, parent as up)
 
   up-falls : Falls number up
-  unfolding up
   up-falls = record {
-    stay = within-zero m (k .parent);
-    fall = λ x d. byLess m x (λ l. rw (within-out m (k .parent) x l) (omega arith)) (λ l. rw (within-in m (k .parent) x (omega arith) l) (k .parent-less x (omega arith) l));
+    stay = byEq (up 0) 0 (λ e. e) (λ d. absurd (omega (arith, less 0 d)));
+    fall = λ x d. byEq (up x) 0 (λ e. omega arith) (λ e. less x e);
   }
+    where
+      less : (x : ℕ) → up x ≢ 0 → up x < x
+      less x d = let i = t .parent-inner x d in
+          ⊎-elim (λ e. omega (arith, t .left-more (up x) i)) (λ e. omega (arith, t .right-more (up x) i)) (t .is-child x d)
 
   -- u is properly below g
   below : ℕ → ℕ → Bool
@@ -58,67 +57,56 @@ module _ (m : ℕ) (left right : List ℕ) (k : Kinship m left right) where
 
   -- a gene and those properly below it
   pub size : ℕ → ℕ
-  size g = suc (count m (below g))
+  size g = suc (count (G .count) (below g))
 
   pub size-low : (g : ℕ) → 1 ≤ size g
   unfolding size
   size-low g = omega arith
 
-  pub size-le : (g : ℕ) → size g ≤ suc m
+  pub size-le : (g : ℕ) → size g ≤ suc (G .count)
   unfolding size
-  size-le g = omega (arith, count-le m (below g))
+  size-le g = omega (arith, count-le (G .count) (below g))
 
   -- the genes properly below g, and g itself
-  size-over : (a : ℕ) → 1 ≤ a → a ≤ m → size a ≤ count m (over number up a)
+  size-over : (a : ℕ) → 1 ≤ a → a ≤ G .count → size a ≤ count (G .count) (over number up a)
   unfolding size below
   size-over a l u = omega (
     arith,
-    count-less m a (below a) (over number up a) (λ v t. and-l (over number up a v) _ t) l u
+    count-less (G .count) a (below a) (over number up a) (λ v t. and-l (over number up a v) _ t) l u
         (and-no-r (over number up a a) (not (same a a)) (not-no (same a a) (is-same {m = a} refl))) (over-self number up up-falls a),
   )
 
-  module _ (g : ℕ) (lg : 1 ≤ g) (ug : g ≤ m) (d : at left g ≢ 0) where
-    up-left : up (at left g) ≡ g
-    unfolding up
-    up-left = within-in m (k .parent) (at left g) (omega arith) (k .left-in g lg ug d) ∙ k .left-parent g lg ug d
+  module _ (g : ℕ) (d : left g ≢ 0) where
+    right-some : right g ≢ 0
+    right-some e = omega (arith, t .right-more g d)
 
-    up-right : up (at right g) ≡ g
-    unfolding up
-    up-right = within-in m (k .parent) (at right g) (omega (arith, k .right-some g lg ug d)) (k .right-in g lg ug d) ∙ k .right-parent g lg ug d
-
-    pub left-more : g < at left g
-    left-more = rw up-left at (up-falls .fall (at left g) d)
-
-    pub right-more : g < at right g
-    right-more = rw up-right at (up-falls .fall (at right g) (k .right-some g lg ug d))
-
-    child-below : (c u : ℕ) → c ≢ 0 → up c ≡ g → g < c → over number up c u ≡ true → below g u ≡ true
+    child-below : (c u : ℕ) → up c ≡ g → g < c → over number up c u ≡ true → below g u ≡ true
     unfolding below
-    child-below c u n e l p =
+    child-below c u e l p =
         let q = over-trans number up up-falls g c u (over-up number up up-falls g c (rw e (over-self number up up-falls g))) p in
         and-yes (over number up g u) (not (same g u)) q (not-yes (same g u) (not-same {m = g} {n = u} (λ r. byEq c u (λ s. omega arith) (λ s. omega (arith, over-low number up up-falls c u p s)))))
 
     -- a gene's size exceeds its children's together
-    pub size-splits : size (at left g) + size (at right g) < size g
+    pub size-splits : size (left g) + size (right g) < size g
     unfolding size count
     size-splits = omega (
       arith,
-      size-over (at left g) (omega (arith, left-more)) (k .left-in g lg ug d),
-      size-over (at right g) (omega (arith, right-more)) (k .right-in g lg ug d),
-      sum-add m (λ u. tally (over number up (at left g) u)) (λ u. tally (over number up (at right g) u)),
-      sum-le m (λ u. tally (over number up (at left g) u) + tally (over number up (at right g) u)) (λ u. tally (below g u)) (λ u _ _. apart u),
+      size-over (left g) (omega arith) (t .left-in g d),
+      size-over (right g) (omega (arith, right-some)) (t .right-in g d),
+      sum-add (G .count) (λ u. tally (over number up (left g) u)) (λ u. tally (over number up (right g) u)),
+      sum-le (G .count) (λ u. tally (over number up (left g) u) + tally (over number up (right g) u)) (λ u. tally (below g u)) (λ u _ _. apart u),
     )
       where
-        apart : (u : ℕ) → tally (over number up (at left g) u) + tally (over number up (at right g) u) ≤ tally (below g u)
-        apart u = byBool (over number up (at left g) u)
-            (λ t. omega (
+        apart : (u : ℕ) → tally (over number up (left g) u) + tally (over number up (right g) u) ≤ tally (below g u)
+        apart u = byBool (over number up (left g) u)
+            (λ y. omega (
               arith,
-              tally-yes (over number up (at left g) u) t,
-              tally-no (over number up (at right g) u) (siblings up up-falls g (at left g) (at right g) d (k .right-some g lg ug d) (k .apart g lg ug d) up-left up-right u t),
-              tally-yes (below g u) (child-below (at left g) u d up-left left-more t),
+              tally-yes (over number up (left g) u) y,
+              tally-no (over number up (right g) u) (siblings up up-falls g (left g) (right g) d right-some (t .apart g d) (t .left-parent g d) (t .right-parent g d) u y),
+              tally-yes (below g u) (child-below (left g) u (t .left-parent g d) (t .left-more g d) y),
             ))
-            (λ t. omega (
+            (λ y. omega (
               arith,
-              tally-no (over number up (at left g) u) t,
-              tally-imp (over number up (at right g) u) (below g u) (λ q. child-below (at right g) u (k .right-some g lg ug d) up-right right-more q),
+              tally-no (over number up (left g) u) y,
+              tally-imp (over number up (right g) u) (below g u) (λ q. child-below (right g) u (t .right-parent g d) (t .right-more g d) q),
             ))

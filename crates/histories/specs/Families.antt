@@ -1,15 +1,15 @@
--- The gene family that number tables hold: entry v is about node v, entry g about gene g. The nodes that the arcs out of a node lead to are found
--- by number: its first and second child by a principal arc, and its child by a secondary arc.
+-- The gene family of a sheet (01, "The network as a whole": "All arcs are on"): what leaves each node by the parents in the network lines, and each
+-- gene's children by the gene tree and its species by the gene lines.
 -- Assumes nothing.
 use mathlib.Core.Path.{_≡_}
 use mathlib.Core.Logic.{_⊎_}
 use mathlib.Core.Bool.{cond, _&&_}
-use mathlib.Core.List.{List}
 use Prim.Native.Nat.{ℕ, suc}
 use Rattle.finite.specs.Tests.{same, under}
-use Rattle.finite.specs.Tables.{at}
-unfoldable pub use Rattle.finite.specs.Tables.{zeros}
-unfoldable pub use Rattle.tables.specs.Children.{isNext, next as childAfter, firstChildren, secondChildren}
+unfoldable pub use Rattle.tables.specs.Children.{isNext, next}
+use Rattle.topology.specs.Lines.{NodeLines, GeneLines}
+use Rattle.reconciliation.specs.GeneTrees.{GeneTree}
+use Rattle.reconciliation.specs.Costs.{Costs}
 use Rattle.histories.specs.Histories.{Out, leaf, one, two, mixed, Gene, tip, pair, Family}
 
 -- the arcs out of a node of species s with the principal children x and y and the secondary child z, 0 for none
@@ -20,29 +20,34 @@ outBy x y z s = cond (same x 0) (leaf s) (cond (same y 0) (cond (same z 0) (one 
 unfoldable pub geneBy : (a b s : ℕ) → Gene
 geneBy a b s = cond (same a 0) (tip s) (pair a b)
 
--- the family in tables of children. What is no node is a leaf of no species, what is no gene a leaf gene of none
-unfoldable pub outFrom : (n : ℕ) (first second other species : List ℕ) → ℕ → Out
-outFrom n first second other species v =
-    cond (under 0 v && under v (suc n)) (outBy (at first v) (at second v) (at other v) (at species v)) (leaf 0)
+module _ (L : NodeLines) where
+  -- the first and the second child of a node by principal arcs, by number, and its first by a secondary arc; 0 for none
+  unfoldable pub firstChild : ℕ → ℕ
+  firstChild v = next (L .size) (L .principal) 0 v
 
-unfoldable pub geneFrom : (m : ℕ) (left right kind : List ℕ) → ℕ → Gene
-geneFrom m left right kind g = cond (under 0 g && under g (suc m)) (geneBy (at left g) (at right g) (at kind g)) (tip 0)
+  unfoldable pub secondChild : ℕ → ℕ
+  secondChild v = next (L .size) (L .principal) (firstChild v) v
 
-unfoldable pub familyFrom : (n : ℕ) (first second other species : List ℕ) (m : ℕ) (left right kind : List ℕ) (d t l : ℕ) → Family
-familyFrom n first second other species m left right kind d t l = record {
-  nodes = n;
-  genes = m;
-  out = outFrom n first second other species;
-  gene = geneFrom m left right kind;
-  duplication = d;
-  transfer = t;
-  loss = l;
+  unfoldable pub otherChild : ℕ → ℕ
+  otherChild v = next (L .size) (L .secondary) 0 v
+
+  -- what is no node is a leaf of no species
+  unfoldable pub outOf : ℕ → Out
+  outOf v = cond (under 0 v && under v (suc (L .size))) (outBy (firstChild v) (secondChild v) (otherChild v) (L .species v)) (leaf 0)
+
+unfoldable pub geneOf : GeneLines → GeneTree → ℕ → Gene
+geneOf K G g = geneBy (G .left g) (G .right g) (K .species g)
+
+unfoldable pub familyOf : NodeLines → GeneLines → GeneTree → Costs → Family
+familyOf L K G C = record {
+  nodes = L .size;
+  genes = G .count;
+  out = outOf L;
+  gene = geneOf K G;
+  duplication = C .duplication;
+  transfer = C .transfer;
+  loss = C .loss;
 }
-
--- the family of a network's parents and species and a gene tree's children and species
-unfoldable pub familyOf : (n : ℕ) (principal secondary species : List ℕ) (m : ℕ) (left right kind : List ℕ) (d t l : ℕ) → Family
-familyOf n principal secondary species m left right kind d t l =
-    familyFrom n (firstChildren n principal) (secondChildren n principal (firstChildren n principal)) (firstChildren n secondary) species m left right kind d t l
 
 -- what leaves a node, arc by arc: x is the end of a principal arc, of a secondary arc
 unfoldable pub PrincipalEnd : Out → ℕ → Type 0
@@ -59,5 +64,5 @@ SecondaryEnd (mixed a b) x = x ≡ b
 
 -- whoever unfolds this unfolds all of this file
 unfoldable pub open-Families : Unit {0}
-unfolding isNext childAfter zeros firstChildren secondChildren outBy geneBy outFrom geneFrom familyFrom familyOf
+unfolding isNext next outBy geneBy firstChild secondChild otherChild outOf geneOf familyOf
 open-Families = tt

@@ -1,9 +1,9 @@
 -- What the least costs of a family rest on: histories go down in the network and in the gene tree, so they end.
 -- Assumes nothing.
 use mathlib.Core.Path.{_≡_}
-use mathlib.Core.List.{List}
+use mathlib.Core.Logic.{_≢_}
 use Prim.Native.Nat.{ℕ, suc, _+_, _≤_, _<_}
-use Rattle.finite.specs.Tables.{at}
+use Rattle.topology.specs.Networks.{Network, Node}
 use Rattle.histories.specs.Histories.{Out, leaf, one, two, mixed, pair, Family}
 
 -- every arc out leads to where `below` holds
@@ -29,27 +29,35 @@ pub record Graded (F : Family) : Type 0 where
 
 -- the limits of 01's header
 pub record Limits (F : Family) : Type 0 where
-  pub some-node : 1 ≤ F .nodes
-  pub few-nodes : F .nodes ≤ 127
-  pub some-gene : 1 ≤ F .genes
-  pub few-genes : F .genes ≤ 127
-  pub duplication-low : F .duplication ≤ 99
-  pub transfer-low : F .transfer ≤ 99
-  pub loss-low : F .loss ≤ 99
+  pub nodes : F .nodes ≤ 127
+  pub genes : F .genes ≤ 127
+  pub duplication : F .duplication ≤ 99
+  pub transfer : F .transfer ≤ 99
+  pub loss : F .loss ≤ 99
 
--- a table of nodes that comes to each node v once, at place v, after the nodes that the arcs out of v lead to
-pub record Schedule (F : Family) (order : List ℕ) : Type 0 where
+-- the nodes of a network in an order in which each comes after its parents: node v is at place v, and no place from 1 on is empty
+pub record Order (N : Network) (order : ℕ → ℕ) : Type 0 where
+  pub place : ℕ → ℕ
+  pub place-low : (v : ℕ) → Node N v → 1 ≤ place v
+  pub place-high : (v : ℕ) → Node N v → place v ≤ N .size
+  pub visits : (v : ℕ) → Node N v → order (place v) ≡ v
+  pub node : (i : ℕ) → 1 ≤ i → i ≤ N .size → Node N (order i)
+  pub placed : (i : ℕ) → 1 ≤ i → i ≤ N .size → place (order i) ≡ i
+  pub principal : (v : ℕ) → Node N v → N .principal v ≢ 0 → place (N .principal v) < place v
+  pub secondary : (v : ℕ) → Node N v → N .secondary v ≢ 0 → place (N .secondary v) < place v
+
+-- such an order as filling the table takes it, from the last place down: arcs out lead to higher places
+pub record Schedule (F : Family) (order : ℕ → ℕ) : Type 0 where
   pub place : ℕ → ℕ
   pub place-low : (v : ℕ) → 1 ≤ v → v ≤ F .nodes → 1 ≤ place v
   pub place-high : (v : ℕ) → 1 ≤ v → v ≤ F .nodes → place v ≤ F .nodes
-  pub visits : (v : ℕ) → 1 ≤ v → v ≤ F .nodes → at order (place v) ≡ v
-  pub placed : (i : ℕ) → 1 ≤ i → i ≤ F .nodes → place (at order i) ≡ i
-  pub entry-low : (i : ℕ) → 1 ≤ i → i ≤ F .nodes → 1 ≤ at order i
-  pub entry-high : (i : ℕ) → 1 ≤ i → i ≤ F .nodes → at order i ≤ F .nodes
-  pub sooner : (v : ℕ) → 1 ≤ v → v ≤ F .nodes → Leads (λ x. (1 ≤ x) × (x ≤ F .nodes) × (place x < place v)) (F .out v)
+  pub visits : (v : ℕ) → 1 ≤ v → v ≤ F .nodes → order (place v) ≡ v
+  pub entry-low : (i : ℕ) → 1 ≤ i → i ≤ F .nodes → 1 ≤ order i
+  pub entry-high : (i : ℕ) → 1 ≤ i → i ≤ F .nodes → order i ≤ F .nodes
+  pub higher : (i : ℕ) → 1 ≤ i → i ≤ F .nodes → Leads (λ x. (1 ≤ x) × (x ≤ F .nodes) × (i < place x)) (F .out (order i))
 
 -- all of this, for a family and an order of its nodes
-pub record Prepared (F : Family) (order : List ℕ) : Type 0 where
+pub record Prepared (F : Family) (order : ℕ → ℕ) : Type 0 where
   pub graded : Graded F
   pub limits : Limits F
   pub schedule : Schedule F order

@@ -1,7 +1,7 @@
 pub mod Histories
 pub mod Grades
 pub mod Words
+pub mod Rows
 pub mod Families
-pub mod Orders
 pub mod Accepted
 pub mod Promise

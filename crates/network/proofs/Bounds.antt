@@ -1,7 +1,6 @@
 -- An accepted network has fewer reticulations than half its nodes: by its shape each node has as many principal arcs out as secondary ones, and one
 -- more if it is a reticulation; and each node but the root has one principal parent.
 -- Assumes nothing.
-use mathlib.Core.List.{List}
 use Prim.Native.Nat.{ℕ, _+_, _*_, _≤_, _<_}
 use native.Mathlib.Omega.{arith}
 use Rattle.finite.specs.Tests.{tally}
@@ -10,13 +9,14 @@ use Rattle.finite.proofs.Tests.{is-same, not-same}
 use Rattle.finite.proofs.Sum.{sum-le, sum-add}
 use Rattle.finite.proofs.Count.{children-few, children-all}
 use Rattle.topology.specs.Networks.{Network, Node, Sound, isReticulation, reticulations}
-use Rattle.network.specs.Refusals.{reticulation, inner, leaf}
-use Rattle.network.specs.Verdict.{ShapeOf, AcceptedNetwork}
+use Rattle.topology.specs.Lines.{NodeLines, network}
+use Rattle.shapes.specs.Refusals.{Shape, reticulation, inner, leaf}
+use Rattle.network.specs.Accepted.{AcceptedNetwork}
 
-module _ (N : Network) (ok : Sound N) (shape : (v : ℕ) → Node N v → ShapeOf N v) where
+module _ (N : Network) (ok : Sound N) (shape : (v : ℕ) → Node N v → Shape N v) where
   open Network N using (size, principal, secondary)
 
-  balance : (v : ℕ) → ShapeOf N v → tally (isReticulation N v) + children size secondary v ≤ children size principal v
+  balance : (v : ℕ) → Shape N v → tally (isReticulation N v) + children size secondary v ≤ children size principal v
   unfolding isReticulation
   balance v (reticulation r) = rw (not-same (r .second-parent)) (omega (arith, r .one-principal, r .no-secondary))
   balance v (inner r) = rw (is-same (r .one-parent)) (omega (arith, r .two-arcs, r .some-principal))
@@ -33,5 +33,6 @@ module _ (N : Network) (ok : Sound N) (shape : (v : ℕ) → Node N v → ShapeO
   )
 
 -- the same of a network that was accepted
-pub accepted-reticulations : (N : Network) (species : List ℕ) → AcceptedNetwork N species → 2 * reticulations N < N .size
-accepted-reticulations N species a = few-reticulations N (a .sound) (a .shape)
+pub accepted-reticulations : (L : NodeLines) → AcceptedNetwork L → 2 * reticulations (network L) < L .size
+unfolding network
+accepted-reticulations L a = few-reticulations (network L) (a .sound) (a .shape)

@@ -1,10 +1,4 @@
-pub mod Loops
-pub mod Counting
-pub mod Tables
 pub mod Readings
-pub mod ShortForms
 pub mod Acceptance
-pub mod Ways
-pub mod TopTables
-pub mod Verdicts
 pub mod Bounds
+pub mod AsRead

@@ -1,4 +1,2 @@
 pub mod Refusals
-pub mod ShortForms
-pub mod Verdict
-pub mod Tables
+pub mod Accepted

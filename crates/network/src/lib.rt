@@ -1,58 +1,35 @@
-// The verdict on a species network: refusals 6 to 11, on tables with entry v for node v. Nothing climbs before 8 has passed.
-pub mod climbs;
-pub mod components;
-pub mod counts;
-mod parents;
-pub mod shapes;
+// The verdict on a species network: refusals 6 to 10, on the lines of the sheet. Each refusal that does not apply hands on to the next.
+pub mod parents;
 
-use components::eleven;
+use layout::lines::Lines;
 use parents::seven;
 use parents::six;
-use shapes::eight;
-use shapes::nine;
-use shapes::ten;
 ghost use mathlib.Core.Path.{_≡_};
+ghost use mathlib.Core.Bool.{false};
 ghost use Prim.Native.Nat.{_≤_};
-ghost use Rattle.finite.specs.Tables.{zeros};
-ghost use Rattle.network.specs.Tables.{HandedOver};
-ghost use Rattle.network.specs.Verdict.{networkVerdict};
+ghost use Rattle.finite.specs.Refusals.{verdict};
+ghost use Rattle.layout.specs.Lines.{nodesIn};
+ghost use Rattle.network.specs.Refusals.{refusal6, afterSix, networkRefusals};
 
-// The first refusal of 6 to 11 that applies, or 0. Two tables are lent as zeros, for the top of each node's component and how many reticulations each
-// has: 11 asks for both, and whoever goes on needs them; a refusal before 11 leaves them as they were.
-pub fn verdict(
-    n: usize,
-    principal: &[u32; 128],
-    secondary: &[u32; 128],
-    stamp: &[u32; 128],
-    species: &[u32; 128],
-    top: &mut [u32; 128],
-    held: &mut [u32; 128],
-) -> u32
-    requires { ⌜ (n ≤ 127) × (now top ≡ zeros) × (now held ≡ zeros) ⌝ }
-    ensures { λ r. ⌜ r ≡ networkVerdict n (now (principal .entry)) (now (secondary .entry)) (now (stamp .entry)) (now (species .entry)) ⌝ }
-    ensures { λ r. ⌜ HandedOver n (now (principal .entry)) (now (secondary .entry)) (now (stamp .entry)) (now (top .exit)) (now (held .exit)) r ⌝ }
+// 7 reads the stamps of the parents: 6 has passed, so they are nodes.
+fn after_six(n: usize, lines: &Lines) -> u32
+    requires { ⌜ n ≤ 127 ⌝ }
+    requires { ⌜ refusal6 (nodesIn n (now lines)) ≡ false ⌝ }
+    ensures { λ r. ⌜ r ≡ verdict (afterSix (nodesIn n (now (lines .entry)))) ⌝ }
 {
-    if six(n, principal, secondary) {
-        return 6;
-    }
-    if seven(n, principal, secondary, stamp) {
+    if seven(n, lines) {
         return 7;
     }
-    let mut principals = [0u32; 128];
-    tables::child_counts(n, principal, &mut principals);
-    let mut secondaries = [0u32; 128];
-    tables::child_counts(n, secondary, &mut secondaries);
-    if eight(n, principal, secondary, &principals, &secondaries) {
-        return 8;
+    shapes::verdict(n, lines)
+}
+
+// The first refusal of 6 to 10 that applies, or 0.
+pub fn verdict(n: usize, lines: &Lines) -> u32
+    requires { ⌜ n ≤ 127 ⌝ }
+    ensures { λ r. ⌜ r ≡ verdict (networkRefusals (nodesIn n (now (lines .entry)))) ⌝ }
+{
+    if six(n, lines) {
+        return 6;
     }
-    if nine(n, principal, secondary, species, &principals, &secondaries) {
-        return 9;
-    }
-    if ten(n, principal, secondary, &principals, &secondaries) {
-        return 10;
-    }
-    if eleven(n, principal, secondary, stamp, top, held) {
-        return 11;
-    }
-    0
+    after_six(n, lines)
 }

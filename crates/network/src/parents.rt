@@ -1,11 +1,14 @@
 // Refusals 6 and 7: the parents and the stamps.
-use super::counts::count_of;
-use tables::wide;
+use columns::FIELDS;
+use layout::lines::Lines;
+use layout::lines::principal;
+use layout::lines::secondary;
+use layout::lines::stamp;
 ghost use mathlib.Core.Path.{_≡_};
 ghost use mathlib.Core.Bool.{false};
 ghost use Prim.Native.Nat.{_≤_};
 ghost use Rattle.finite.specs.Range.{some};
-ghost use Rattle.finite.specs.Tables.{at};
+ghost use Rattle.layout.specs.Lines.{nodesIn};
 ghost use Rattle.network.specs.Refusals.{badParents, badParentsAt, refusal6, badStamps, badStampsAt, refusal7};
 
 // 6: of one node.
@@ -30,40 +33,35 @@ fn bad_parents(n: usize, p: usize, s: usize, v: usize) -> bool
     false
 }
 
-fn bad_parents_at(n: usize, principal: &[u32; 128], secondary: &[u32; 128], v: usize) -> bool
-    requires { ⌜ v ≤ 127 ⌝ }
-    ensures { λ r. ⌜ r ≡ badParentsAt n (now (principal .entry)) (now (secondary .entry)) v ⌝ }
-{
-    bad_parents(n, wide(principal[v]), wide(secondary[v]), v)
-}
-
-fn some_bad_parents(n: usize, principal: &[u32; 128], secondary: &[u32; 128]) -> bool
+// Whether some node has bad parents.
+fn some_bad_parents(n: usize, lines: &Lines) -> bool
     requires { ⌜ n ≤ 127 ⌝ }
-    ensures { λ r. ⌜ r ≡ some n (badParentsAt n (now (principal .entry)) (now (secondary .entry))) ⌝ }
+    ensures { λ r. ⌜ r ≡ some n (badParentsAt (nodesIn n (now (lines .entry)))) ⌝ }
 {
     let mut v: usize = 0;
     while v < n {
-        if bad_parents_at(n, principal, secondary, v + 1) {
+        let w = v + 1;
+        if bad_parents(n, principal(lines, w), secondary(lines, w), w) {
             return true;
         }
-        v += 1;
+        v = w;
     }
     false
 }
 
 // 6.
-pub fn six(n: usize, principal: &[u32; 128], secondary: &[u32; 128]) -> bool
+pub fn six(n: usize, lines: &Lines) -> bool
     requires { ⌜ n ≤ 127 ⌝ }
-    ensures { λ r. ⌜ r ≡ refusal6 n (now (principal .entry)) (now (secondary .entry)) ⌝ }
+    ensures { λ r. ⌜ r ≡ refusal6 (nodesIn n (now (lines .entry))) ⌝ }
 {
-    if some_bad_parents(n, principal, secondary) {
+    if some_bad_parents(n, lines) {
         return true;
     }
-    count_of(n, principal, 0) != 1
+    tables::count_of(n, lines, 1, FIELDS, 0) != 1
 }
 
 // 7: of one node.
-fn bad_stamps(p: usize, s: usize, tp: u32, ts: u32, t: u32) -> bool
+fn bad_stamps(p: usize, s: usize, tp: usize, ts: usize, t: usize) -> bool
     ensures { λ r. ⌜ r ≡ badStamps p s tp ts t ⌝ }
 {
     if p != 0 {
@@ -77,30 +75,26 @@ fn bad_stamps(p: usize, s: usize, tp: u32, ts: u32, t: u32) -> bool
     ts != t
 }
 
-fn bad_stamps_at(
-    principal: &[u32; 128],
-    secondary: &[u32; 128],
-    stamp: &[u32; 128],
-    v: usize,
-) -> bool
-    requires { ⌜ v ≤ 127 ⌝ }
-    requires { ⌜ (at (now principal) v ≤ 127) × (at (now secondary) v ≤ 127) ⌝ }
-    ensures { λ r. ⌜ r ≡ badStampsAt (now (principal .entry)) (now (secondary .entry)) (now (stamp .entry)) v ⌝ }
+// The parents are nodes: 6 has passed.
+fn bad_stamps_at(n: usize, lines: &Lines, v: usize) -> bool
+    requires { ⌜ (n ≤ 127) × (1 ≤ v) × (v ≤ n) ⌝ }
+    requires { ⌜ refusal6 (nodesIn n (now lines)) ≡ false ⌝ }
+    ensures { λ r. ⌜ r ≡ badStampsAt (nodesIn n (now (lines .entry))) v ⌝ }
 {
-    let p = wide(principal[v]);
-    let s = wide(secondary[v]);
-    bad_stamps(p, s, stamp[p], stamp[s], stamp[v])
+    let p = principal(lines, v);
+    let s = secondary(lines, v);
+    bad_stamps(p, s, stamp(lines, p), stamp(lines, s), stamp(lines, v))
 }
 
-// 7. The parents are nodes: 6 has passed.
-pub fn seven(n: usize, principal: &[u32; 128], secondary: &[u32; 128], stamp: &[u32; 128]) -> bool
+// 7.
+pub fn seven(n: usize, lines: &Lines) -> bool
     requires { ⌜ n ≤ 127 ⌝ }
-    requires { ⌜ refusal6 n (now principal) (now secondary) ≡ false ⌝ }
-    ensures { λ r. ⌜ r ≡ refusal7 n (now (principal .entry)) (now (secondary .entry)) (now (stamp .entry)) ⌝ }
+    requires { ⌜ refusal6 (nodesIn n (now lines)) ≡ false ⌝ }
+    ensures { λ r. ⌜ r ≡ refusal7 (nodesIn n (now (lines .entry))) ⌝ }
 {
     let mut v: usize = 0;
     while v < n {
-        if bad_stamps_at(principal, secondary, stamp, v + 1) {
+        if bad_stamps_at(n, lines, v + 1) {
             return true;
         }
         v += 1;

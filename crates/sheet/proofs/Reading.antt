@@ -6,7 +6,7 @@ use mathlib.Core.Path.{_≡_, refl, sym, ap, _∙_}
 use mathlib.Core.Logic.{_≢_}
 use mathlib.Core.Bool.{Bool, true, false, _&&_, not}
 use mathlib.Core.List.{List}
-use lib.ListN.{length}
+use lib.ListN.{length, replicate}
 use native.Mathlib.Omega.{arith}
 use Rattle.finite.specs.Tests.{same}
 use Rattle.finite.specs.Tables.{at}
@@ -15,26 +15,38 @@ use Rattle.finite.proofs.Tests.{is-same, same-is, not-same, and-no-r, told-not-
 use Rattle.columns.specs.Lines.{fieldCount, lineLength, lineAt}
 use Rattle.columns.specs.declared.End.{End}
 use Rattle.columns.specs.declared.End.the-variants.{After, Malformed}
-use Rattle.columns.specs.declared.Reading.{Reading}
 use Rattle.columns.proofs.Lines.{malformed-zero}
 use Rattle.sheet.specs.declared.Headed.the-variants.{Header as accepted, Refused}
-use Rattle.sheet.specs.Sheets.{found, lineNo, isLine, cell, nodes, genes, duplicationCost, transferCost, lossCost, limits, refuses3, refuses4, headerOf, whole, nodeLine, geneLine, cellsOf, nodeNumbered, geneFieldsFit, geneNumbered}
-use Rattle.sheet.proofs.Storing.{cells-at}
+use Rattle.layout.specs.Headers.{Limits}
+use Rattle.sheet.specs.Sheets.{found, linesPut, allLines, lineNo, isLine, cell, headerBy, limits, refuses3, refuses4, headerOf, whole, nodeLine, geneLine, cellsOf, nodeNumbered, geneFieldsFit, geneNumbered}
+use Rattle.sheet.proofs.Limits.{limits-is}
+use Rattle.sheet.proofs.Storing.{one-line, cells-at}
+
+-- a header that passes the test of the limits
+pub within : (h : List ℕ) (c : Bool) → c ≡ limits h → not c ≡ false → Limits (headerBy h)
+within h c ec u = limits-is h (told-not-yes c _ ec u)
 
 -- the header, from what reading line 0 told
-module _ (s : List ℕ) (r : Reading) (er : r ≡ lineAt s 0) (b : Bool) (eb : b ≡ found (r .end)) where
+module _ (s h : List ℕ) (eh : h ≡ linesPut (replicate fieldCount 0) s 1) (b : Bool) (eb : b ≡ allLines s 1) where
+  line-is : h ≡ lineNo s 0 .line
+  line-is = eh ∙ one-line (replicate fieldCount 0) s refl
+
+  found-is : b ≡ isLine s 0
+  unfolding allLines
+  found-is = eb ∙ byBool (isLine s 0) (λ t. rw t) (λ t. rw t)
+
   pub no-header : not b ≡ true → Refused 3 ≡ headerOf s
-  unfolding headerOf refuses3 isLine lineNo
-  no-header t = rw (← er, told-not-no b _ eb t)
+  unfolding headerOf refuses3
+  no-header t = rw (told-not-no b _ found-is t)
 
-  pub header-beyond : not b ≡ false → (c : Bool) → c ≡ limits (r .line) → not c ≡ true → Refused 4 ≡ headerOf s
-  unfolding headerOf refuses3 refuses4 isLine lineNo
-  header-beyond t c ec u = rw (← er, told-not-yes b _ eb t, told-not-no c _ ec u)
+  pub header-beyond : not b ≡ false → (c : Bool) → c ≡ limits h → not c ≡ true → Refused 4 ≡ headerOf s
+  unfolding headerOf refuses3 refuses4
+  header-beyond t c ec u = rw (told-not-yes b _ found-is t, ← line-is, told-not-no c _ ec u)
 
-  pub header-within : not b ≡ false → (c : Bool) → c ≡ limits (r .line) → not c ≡ false
-      → accepted (record { nodes = at (r .line) 0; genes = at (r .line) 1; duplication = at (r .line) 2; transfer = at (r .line) 3; loss = at (r .line) 4 }) ≡ headerOf s
-  unfolding headerOf refuses3 refuses4 isLine lineNo nodes genes duplicationCost transferCost lossCost cell
-  header-within t c ec u = rw (← er, told-not-yes b _ eb t, told-not-yes c _ ec u)
+  pub header-within : not b ≡ false → (c : Bool) → c ≡ limits h → not c ≡ false
+      → accepted (record { nodes = at h 0; genes = at h 1; duplication = at h 2; transfer = at h 3; loss = at h 4 }) ≡ headerOf s
+  unfolding headerOf refuses3 refuses4
+  header-within t c ec u = rw (told-not-yes b _ found-is t, ← line-is, told-not-yes c _ ec u)
 
 -- the length rule
 pub is-whole : (s : List ℕ) (n m l : ℕ) → l ≡ lineLength * (1 + n + m) → length s ≡ l → true ≡ whole s n m

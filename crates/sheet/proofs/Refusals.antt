@@ -9,16 +9,16 @@ use mathlib.Core.List.{List}
 use native.Mathlib.Omega.{arith}
 use Rattle.finite.specs.Tests.{same}
 use Rattle.finite.specs.Range.{every}
-use Rattle.finite.specs.Tables.{at, filled}
+use Rattle.finite.specs.Tables.{at}
 use Rattle.finite.proofs.Cases.{byBool, clash}
 use Rattle.finite.proofs.Tests.{is-same, same-is, and-l, and-r, not-true, not-false, not-yes}
 use Rattle.finite.proofs.Every.{every-at, is-every, every-same}
-use Rattle.finite.proofs.Tables.{filled-same}
+use Rattle.layout.specs.Headers.{Limits}
 use Rattle.columns.specs.Lines.{fieldCount, lineLength, lineAt, LineIs}
 use Rattle.columns.specs.declared.End.{End}
 use Rattle.columns.specs.declared.End.the-variants.{After, Malformed}
 use Rattle.columns.proofs.Lines.{line-is, small-read, one-line}
-use Rattle.sheet.specs.Sheets.{zeros, found, lineNo, isLine, cell, nodes, genes, limits, Limits, refuses3, refuses4, whole, nodeLine, geneLine, refuses5, Line, NodeLine, GeneLine, WellFormed, cellsOf, nodeNumbered, geneNumbered, columnOf, nodeTable, geneTable}
+use Rattle.sheet.specs.Sheets.{found, lineNo, isLine, cell, headerIn, nodes, genes, limits, refuses3, refuses4, whole, nodeLine, geneLine, refuses5, Line, NodeLine, GeneLine, WellFormed, cellsOf, nodeNumbered, geneNumbered}
 use Rattle.sheet.proofs.Limits.{limits-is, is-limits}
 use Rattle.sheet.proofs.Storing.{cells-at}
 use Rattle.sheet.proofs.Reading.{node-numbered, gene-numbered}
@@ -56,7 +56,7 @@ refuses-3 s = (
 )
 
 -- 4: the header is beyond the limits
-pub refuses-4 : (s : List ℕ) → (refuses4 s ≡ true) ↔ (Limits (lineNo s 0 .line) → ⊥)
+pub refuses-4 : (s : List ℕ) → (refuses4 s ≡ true) ↔ (Limits (headerIn s) → ⊥)
 unfolding refuses4
 refuses-4 s = (
   (λ t l. clash (sym (is-limits _ l)) (not-true (limits (lineNo s 0 .line)) t)),
@@ -121,7 +121,7 @@ formed-well s w = rw (
 pub refuses-5 : (s : List ℕ) → (refuses5 s ≡ true) ↔ (WellFormed s (nodes s) (genes s) → ⊥)
 refuses-5 s = ((λ t w. clash t (formed-well s w)), λ none. byBool (refuses5 s) (λ t. t) (λ f. absurd (none (well-formed s f))))
 
--- what the cells of 1 + n + m lines tell of 5, and the tables that they give
+-- what the cells of 1 + n + m lines tell of 5
 module _ (s : List ℕ) (few-nodes : nodes s ≤ 127) (few-genes : genes s ≤ 127) where
   abbrev count : ℕ
   count = 1 + nodes s + genes s
@@ -131,14 +131,6 @@ module _ (s : List ℕ) (few-nodes : nodes s ≤ 127) (few-genes : genes s ≤ 1
 
   pub genes-told : every (genes s) (geneNumbered (cellsOf s (1 + nodes s + genes s)) (nodes s)) ≡ every (genes s) (geneLine s (nodes s))
   genes-told = every-same (genes s) _ _ (λ g l u. gene-numbered s (1 + nodes s + genes s) (nodes s) g (omega arith) l (omega arith))
-
-  pub node-table : (k : ℕ) → k < fieldCount → filled (nodes s) zeros (columnOf (cellsOf s (1 + nodes s + genes s)) 0 k) ≡ nodeTable s k
-  unfolding nodeTable columnOf
-  node-table k h = filled-same (nodes s) zeros _ _ (λ v l u. ap (at (cellsOf s (1 + nodes s + genes s))) (omega arith) ∙ cells-at s (1 + nodes s + genes s) v k (omega arith) (omega arith) h)
-
-  pub gene-table : (k : ℕ) → k < fieldCount → filled (genes s) zeros (columnOf (cellsOf s (1 + nodes s + genes s)) (nodes s) k) ≡ geneTable s k
-  unfolding geneTable columnOf
-  gene-table k h = filled-same (genes s) zeros _ _ (λ g l u. cells-at s (1 + nodes s + genes s) (nodes s + g) k (omega arith) (omega arith) h)
 
 -- every cell has a field
 pub cell-small : (s : List ℕ) (i k : ℕ) → cell s i k < 1000000

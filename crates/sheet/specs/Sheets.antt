@@ -4,15 +4,14 @@ use Prim.Native.Nat.{ℕ, zero, suc, _+_, _*_, _≤_}
 use mathlib.Core.Bool.{Bool, true, false, cond, _&&_, not}
 use mathlib.Core.List.{List}
 use mathlib.Core.Path.{_≡_}
-use lib.ListN.{length, getD, set, take, drop, replicate}
+use lib.ListN.{length, getD, take, drop, replicate}
 use Rattle.finite.specs.Tests.{same, under}
 use Rattle.finite.specs.Range.{every}
-use Rattle.finite.specs.Tables.{at, filled}
-unfoldable pub use Rattle.finite.specs.Tables.{zeros}
-use Rattle.columns.specs.Lines.{fieldCount, lineLength, lineAt, lineOf, Small}
+use Rattle.finite.specs.Tables.{at}
+use Rattle.columns.specs.Lines.{fieldCount, lineLength, Reading, lineAt, lineOf, put, Small}
 use Rattle.columns.specs.declared.End.{End}
 use Rattle.columns.specs.declared.End.the-variants.{After, Malformed}
-use Rattle.columns.specs.declared.Reading.{Reading}
+use Rattle.layout.specs.declared.Header.{Header}
 use Rattle.sheet.specs.declared.Headed.{Headed}
 use Rattle.sheet.specs.declared.Headed.the-variants.{Header as accepted, Refused}
 
@@ -34,36 +33,22 @@ unfoldable pub cell : List ℕ → ℕ → ℕ → ℕ
 cell s i k = getD (lineNo s i .line) k 0
 
 -- "Header: network nodes n, gene nodes m, costs of a duplication (D), a transfer (T) and a loss (L)"
-module _ (s : List ℕ) where
-  unfoldable pub nodes : ℕ
-  nodes = cell s 0 0
+abbrev pub headerBy : List ℕ → Header
+headerBy line = record { nodes = at line 0; genes = at line 1; duplication = at line 2; transfer = at line 3; loss = at line 4 }
 
-  unfoldable pub genes : ℕ
-  genes = cell s 0 1
+abbrev pub headerIn : List ℕ → Header
+headerIn s = headerBy (lineNo s 0 .line)
 
-  unfoldable pub duplicationCost : ℕ
-  duplicationCost = cell s 0 2
+abbrev pub nodes : List ℕ → ℕ
+nodes s = headerIn s .nodes
 
-  unfoldable pub transferCost : ℕ
-  transferCost = cell s 0 3
-
-  unfoldable pub lossCost : ℕ
-  lossCost = cell s 0 4
+abbrev pub genes : List ℕ → ℕ
+genes s = headerIn s .genes
 
 -- "n and m are 1 to 127, each cost 0 to 99"
 unfoldable pub limits : List ℕ → Bool
 limits h = under 0 (at h 0) && under (at h 0) 128 && under 0 (at h 1) && under (at h 1) 128
     && under (at h 2) 100 && under (at h 3) 100 && under (at h 4) 100
-
--- the same, as inequalities
-pub record Limits (h : List ℕ) : Type 0 where
-  pub some-node : 1 ≤ at h 0
-  pub few-nodes : at h 0 ≤ 127
-  pub some-gene : 1 ≤ at h 1
-  pub few-genes : at h 1 ≤ 127
-  pub duplication : at h 2 ≤ 99
-  pub transfer : at h 3 ≤ 99
-  pub loss : at h 4 ≤ 99
 
 -- 3: "no whole header line, or a field or line feed in it malformed"
 unfoldable pub refuses3 : List ℕ → Bool
@@ -76,7 +61,7 @@ refuses4 s = not (limits (lineNo s 0 .line))
 -- what the header comes to
 unfoldable pub headerOf : List ℕ → Headed
 headerOf s = cond (refuses3 s) (Refused 3) (cond (refuses4 s) (Refused 4)
-    (accepted (record { nodes = nodes s; genes = genes s; duplication = duplicationCost s; transfer = transferCost s; loss = lossCost s })))
+    (accepted (headerIn s)))
 
 -- "total length is not 31 × (1 + n + m)"
 unfoldable pub whole : List ℕ → ℕ → ℕ → Bool
@@ -93,10 +78,6 @@ geneLine s n g = isLine s (n + g) && same (cell s (n + g) 0) g && same (cell s (
 -- 5: "total length is not 31 × (1 + n + m); or a later line is malformed, out of number, or a gene line's last two fields are not 0"
 unfoldable pub refuses5 : List ℕ → Bool
 refuses5 s = not (whole s (nodes s) (genes s) && every (nodes s) (nodeLine s) && every (genes s) (geneLine s (nodes s)))
-
--- the first of 3, 4 and 5 that applies, or 0
-unfoldable pub sheetVerdict : List ℕ → ℕ
-sheetVerdict s = cond (refuses3 s) 3 (cond (refuses4 s) 4 (cond (refuses5 s) 5 0))
 
 -- The conditions of 3, 4 and 5 as a reader of 01 would state them; proofs/Refusals joins them with the tests above.
 -- Line i is the line of the numbers ns
@@ -124,15 +105,19 @@ pub record WellFormed (s : List ℕ) (n m : ℕ) : Type 0 where
   pub node : (v : ℕ) → 1 ≤ v → v ≤ n → NodeLine s v
   pub gene : (g : ℕ) → 1 ≤ g → g ≤ m → GeneLine s n g
 
--- the cells with the first k numbers of a line put at a place
-unfoldable pub stored : List ℕ → ℕ → List ℕ → ℕ → List ℕ
-stored cells i line zero = cells
-stored cells i line (suc k) = set (stored cells i line k) (i + k) (at line k)
+-- the numbers of the first k lines, line by line, put over the front of d
+unfoldable pub linesPut : List ℕ → List ℕ → ℕ → List ℕ
+linesPut d s zero = d
+linesPut d s (suc k) = put (linesPut d s k) (fieldCount * k) (lineNo s k .line)
 
--- the numbers of the first k lines, line by line, in an array that holds those of 256 lines, 0 where no line was read
+-- whether each of the first k lines is well formed
+unfoldable pub allLines : List ℕ → ℕ → Bool
+allLines s zero = true
+allLines s (suc k) = isLine s k && allLines s k
+
+-- the numbers of the first k lines in an array that holds those of 256 lines, 0 where no line was read
 unfoldable pub cellsOf : List ℕ → ℕ → List ℕ
-cellsOf s zero = replicate 1280 0
-cellsOf s (suc k) = stored (cellsOf s k) (fieldCount * k) (lineNo s k .line) fieldCount
+cellsOf s k = linesPut (replicate 1280 0) s k
 
 -- the lines as an array of cells has them: a malformed line bears the number 0
 unfoldable pub nodeNumbered : List ℕ → ℕ → Bool
@@ -143,14 +128,3 @@ geneFieldsFit number fourth fifth g = same number g && same fourth 0 && same fif
 
 unfoldable pub geneNumbered : List ℕ → ℕ → ℕ → Bool
 geneNumbered cells n g = geneFieldsFit (at cells (fieldCount * (n + g))) (at cells (fieldCount * (n + g) + 3)) (at cells (fieldCount * (n + g) + 4)) g
-
--- field k of the v-th line after the line `base`
-unfoldable pub columnOf : List ℕ → ℕ → ℕ → ℕ → ℕ
-columnOf cells base k v = at cells (fieldCount * (base + v) + k)
-
--- field k of the node lines, and of the gene lines, as tables
-unfoldable pub nodeTable : List ℕ → ℕ → List ℕ
-nodeTable s k = filled (nodes s) zeros (λ v. cell s v k)
-
-unfoldable pub geneTable : List ℕ → ℕ → List ℕ
-geneTable s k = filled (genes s) zeros (λ g. cell s (nodes s + g) k)

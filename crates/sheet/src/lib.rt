@@ -1,24 +1,16 @@
-// A family sheet: from bytes to tables of numbers, and the refusals 3, 4 and 5.
+// A family sheet: from bytes to the numbers of its lines, and the refusals 3, 4 and 5.
 use columns::Cursor;
 use columns::End;
-use columns::Reading;
+use layout::lines::Lines;
+use layout::Header;
 ghost use mathlib.Core.Path.{_≡_};
+ghost use mathlib.Core.Bool.{_&&_};
 ghost use Prim.Native.Nat.{_+_, _*_, _≤_, _<_};
 ghost use lib.ListN.{length};
 ghost use Rattle.finite.specs.Tests.{same};
 ghost use Rattle.finite.specs.Range.{every};
-ghost use Rattle.finite.specs.Tables.{at, filled};
 ghost use Rattle.columns.specs.Lines.{fieldCount};
-ghost use Rattle.sheet.specs.Sheets.{zeros, headerOf, limits, whole, stored, cellsOf, nodeNumbered, geneFieldsFit, geneNumbered, columnOf, found};
-
-// The sizes and costs of a header line.
-pub struct Header {
-    pub nodes: usize,
-    pub genes: usize,
-    pub duplication: u32,
-    pub transfer: u32,
-    pub loss: u32,
-}
+ghost use Rattle.sheet.specs.Sheets.{found, allLines, linesPut, headerOf, limits, whole, cellsOf, nodeNumbered, geneFieldsFit, geneNumbered};
 
 // A header within the limits, or the number of its refusal.
 pub enum Headed {
@@ -26,17 +18,32 @@ pub enum Headed {
     Refused(u32),
 }
 
-// The numbers of up to 255 lines, line by line.
-pub const CELLS: usize = 1280;
-
-// Whether a line was found.
-fn is_line(end: End) -> bool
-    ensures { λ r. ⌜ r ≡ found end ⌝ }
+// Whether a line was found, and all those before it.
+fn and_line(all: bool, end: End) -> bool
+    ensures { λ r. ⌜ r ≡ (found end && all) ⌝ }
 {
     match end {
-        End::After(_) => true,
+        End::After(_) => all,
         End::Malformed => false,
     }
+}
+
+// Reads the first lines, each at its place, and puts their numbers, line by line, into what is lent. Tells whether all of them are lines.
+fn read_lines(s: &[u8], count: usize, numbers: &mut [u32]) -> bool
+    requires { ⌜ (count ≤ 255) × (fieldCount * count ≤ length (now numbers)) ⌝ }
+    ensures { λ r. ⌜ (r ≡ allLines (now (s .entry)) count) × (now (numbers .exit) ≡ linesPut (now (numbers .entry)) (now (s .entry)) count) ⌝ }
+{
+    let mut all = true;
+    let mut i = 0;
+    while i < count {
+        let start = Cursor {
+            at: columns::LINE * i,
+        };
+        let end = columns::read_line(s, start, numbers, columns::FIELDS * i);
+        all = and_line(all, end);
+        i += 1;
+    }
+    all
 }
 
 // 4: each number of a header line within its limits.
@@ -71,10 +78,8 @@ fn within_limits(line: &[u32; columns::FIELDS]) -> bool
 pub fn read_header(s: &[u8]) -> Headed
     ensures { λ r. ⌜ r ≡ headerOf (now (s .entry)) ⌝ }
 {
-    let r = columns::read_line(s, Cursor { at: 0 });
-    let line = r.line;
-    let end = r.end;
-    if !is_line(end) {
+    let mut line = [0u32; columns::FIELDS];
+    if !read_lines(s, 1, &mut line) {
         return Headed::Refused(3);
     }
     if !within_limits(&line) {
@@ -89,35 +94,12 @@ pub fn read_header(s: &[u8]) -> Headed
     })
 }
 
-// Puts the numbers of a line into the cells from a place on.
-fn store_line(cells: &mut [u32; CELLS], at: usize, line: &[u32; columns::FIELDS])
-    requires { ⌜ at + fieldCount ≤ 1280 ⌝ }
-    ensures { λ _. ⌜ now (cells .exit) ≡ stored (now (cells .entry)) at (now (line .entry)) fieldCount ⌝ }
-{
-    let mut k = 0;
-    while k < columns::FIELDS {
-        cells[at + k] = line[k];
-        k += 1;
-    }
-}
-
 // The numbers of the first lines, each line read at its place, put into empty cells.
-pub fn cells(s: &[u8], count: usize, cells: &mut [u32; CELLS])
+pub fn cells(s: &[u8], count: usize, cells: &mut Lines)
     requires { ⌜ (count ≤ 255) × (now cells ≡ cellsOf (now s) 0) ⌝ }
     ensures { λ _. ⌜ now (cells .exit) ≡ cellsOf (now (s .entry)) count ⌝ }
 {
-    let mut i = 0;
-    while i < count {
-        let r = columns::read_line(
-            s,
-            Cursor {
-                at: columns::LINE * i,
-            },
-        );
-        let line = r.line;
-        store_line(cells, columns::FIELDS * i, &line);
-        i += 1;
-    }
+    read_lines(s, count, cells);
 }
 
 // The length rule of 5.
@@ -143,7 +125,7 @@ fn bears(number: u32, w: usize) -> bool
 }
 
 // Whether the node lines are well formed and in number.
-pub fn nodes_in_order(cells: &[u32; CELLS], n: usize) -> bool
+pub fn nodes_in_order(cells: &Lines, n: usize) -> bool
     requires { ⌜ n ≤ 127 ⌝ }
     ensures { λ r. ⌜ r ≡ every n (nodeNumbered (now (cells .entry))) ⌝ }
 {
@@ -175,7 +157,7 @@ fn is_gene_line(number: u32, fourth: u32, fifth: u32, g: usize) -> bool
 }
 
 // Whether the gene lines are well formed, in number and end in two zeros.
-pub fn genes_in_order(cells: &[u32; CELLS], n: usize, m: usize) -> bool
+pub fn genes_in_order(cells: &Lines, n: usize, m: usize) -> bool
     requires { ⌜ (n ≤ 127) × (m ≤ 127) ⌝ }
     ensures { λ r. ⌜ r ≡ every m (geneNumbered (now (cells .entry)) n) ⌝ }
 {
@@ -189,17 +171,4 @@ pub fn genes_in_order(cells: &[u32; CELLS], n: usize, m: usize) -> bool
         g = h;
     }
     true
-}
-
-// Field k of the lines after the line `base`, put into a table of zeros.
-pub fn table(cells: &[u32; CELLS], base: usize, count: usize, k: usize, t: &mut [u32; 128])
-    requires { ⌜ (base ≤ 127) × (count ≤ 127) × (k < fieldCount) × (now t ≡ zeros) ⌝ }
-    ensures { λ _. ⌜ now (t .exit) ≡ filled count zeros (columnOf (now (cells .entry)) base k) ⌝ }
-{
-    let mut v = 0;
-    while v < count {
-        let w = v + 1;
-        t[w] = cells[columns::FIELDS * (base + w) + k];
-        v = w;
-    }
 }

@@ -155,6 +155,13 @@ blank-clear k l = record {
   none = λ v. byLess v 128 (λ b. entry-in blank k v b ∙ getD-replicate 512 (128 * k + v) 0 0 (omega arith)) (λ b. entry-out blank k v b);
 }
 
+pub blank-is : (k : ℕ) (t : List ℕ) → k < 4 → t ≡ blank → Clear k t
+blank-is k t l e = rw e (blank-clear k l)
+
+-- another column is still clear in a table that came back with one filled
+pub still-clear : (j k n : ℕ) (t s : List ℕ) (f : ℕ → ℕ) → n ≤ 127 → j ≢ k → s ≡ column k n t f → Clear j t → Clear j s
+still-clear j k n t s f l d e c = rw e (column-clear k t f n j (omega arith) d c)
+
 -- numbers that are equally far apart: those up to the last one are in the array
 pub spaced-in : (b s n v l : ℕ) → v ≤ n → b + s * n < l → b + s * v < l
 spaced-in b s n v l u h = omega (arith, times {a = s} {b = v} {c = s} {d = n} (omega arith) u)

@@ -3,11 +3,11 @@
 use mathlib.Core.Path.{_≡_}
 use mathlib.Core.Bool.{Bool, cond, _&&_}
 use mathlib.Core.List.{List}
-use Prim.Native.Nat.{ℕ, _≤_, _<_}
+use Prim.Native.Nat.{ℕ, _+_, _≤_, _<_}
 use lib.ListN.{length}
 use Rattle.finite.specs.Tests.{same, under}
 use Rattle.finite.specs.Range.{first, children}
-use Rattle.tables.specs.Columns.{entry}
+use Rattle.tables.specs.Columns.{entry, written}
 
 -- v is above a and its parent is x
 unfoldable pub isNext : (ℕ → ℕ) → ℕ → ℕ → ℕ → Bool
@@ -30,3 +30,7 @@ inside n p = cond (under n p) 0 p
 
 unfoldable pub insideAfter : ℕ → (after : ℕ → ℕ) → ℕ → ℕ → ℕ
 insideAfter n after p w = cond (under (after (inside n p)) w) (inside n p) 0
+
+-- the table with one child more counted at the parent p, in column k
+unfoldable pub raised : ℕ → List ℕ → (k p : ℕ) → List ℕ
+raised n t k p = written t k (inside n p) (entry t k (inside n p) + 1)

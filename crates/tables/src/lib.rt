@@ -4,9 +4,10 @@ ghost use mathlib.Core.Path.{_≡_};
 ghost use mathlib.Core.Logic.{_≢_};
 ghost use Prim.Native.Nat.{_+_, _*_, _≤_, _<_};
 ghost use lib.ListN.{length};
+ghost use Rattle.finite.specs.Tests.{same, tally};
 ghost use Rattle.finite.specs.Range.{children};
-ghost use Rattle.tables.specs.Columns.{entry, written, column, spaced, Clear, Kept};
-ghost use Rattle.tables.specs.Children.{next, inside, insideAfter, Counted};
+ghost use Rattle.tables.specs.Columns.{entry, written, column, spaced, Clear};
+ghost use Rattle.tables.specs.Children.{next, inside, insideAfter, raised};
 
 // Four columns of 128 numbers.
 pub type Table = [u32; 512];
@@ -87,12 +88,37 @@ pub fn next_children(n: usize, t: &[u32], b: usize, s: usize, out: &mut Table, j
     put(out, k, 0, 0);
 }
 
-// Child v + 1 counts at its parent in column k, the children up to v being counted.
-pub fn count_next(n: usize, t: &[u32], b: usize, s: usize, v: usize, out: &mut Table, k: usize)
-    requires { ⌜ (n ≤ 127) × (v < n) × (b + s * n < length (now t)) × (k < 4) × Counted n (spaced (now t) b s) k v (now out) ⌝ }
-    ensures { λ _. ⌜ Counted n (spaced (now (t .entry)) b s) k (v + 1) (now (out .exit)) × Kept k (now (out .entry)) (now (out .exit)) ⌝ }
+// 1 where two numbers are the same, else 0.
+fn one_if(a: usize, b: usize) -> usize
+    ensures { λ r. ⌜ (r ≡ tally (same a b)) × (r ≤ 1) ⌝ }
 {
-    let q = slot(n, spaced(t, b, s, v + 1));
+    if a == b {
+        return 1;
+    }
+    0
+}
+
+// How many children x has, which may be any number: 0 too, which stands for no parent.
+pub fn count_of(n: usize, t: &[u32], b: usize, s: usize, x: usize) -> usize
+    requires { ⌜ (n ≤ 127) × (b + s * n < length (now t)) ⌝ }
+    ensures { λ r. ⌜ (r ≡ children n (spaced (now (t .entry)) b s) x) × (r ≤ n) ⌝ }
+{
+    let mut r: usize = 0;
+    let mut v: usize = 0;
+    while v < n {
+        let w = v + 1;
+        r += one_if(spaced(t, b, s, w), x);
+        v = w;
+    }
+    r
+}
+
+// One child more at the parent p, in column k.
+pub fn count_at(n: usize, p: usize, out: &mut Table, k: usize)
+    requires { ⌜ (n ≤ 127) × (k < 4) × (entry (now out) k (inside n p) ≤ 127) ⌝ }
+    ensures { λ _. ⌜ now (out .exit) ≡ raised n (now (out .entry)) k p ⌝ }
+{
+    let q = slot(n, p);
     put(out, k, q, get(out, k, q) + 1);
 }
 
@@ -103,8 +129,9 @@ pub fn child_counts(n: usize, t: &[u32], b: usize, s: usize, out: &mut Table, k:
 {
     let mut v: usize = 0;
     while v < n {
-        count_next(n, t, b, s, v, out, k);
-        v += 1;
+        let w = v + 1;
+        count_at(n, spaced(t, b, s, w), out, k);
+        v = w;
     }
     put(out, k, 0, 0);
 }

@@ -3,4 +3,4 @@ pub mod Above
 pub mod Components
 pub mod Lca
 pub mod CutArcs
-pub mod Levels
+pub mod Lines

@@ -4,7 +4,7 @@ use mathlib.Core.Path.{_≡_}
 use mathlib.Core.Logic.{_≢_}
 use mathlib.Core.Bool.{Bool, not}
 use Prim.Native.Nat.{ℕ, _≤_, _<_}
-use Rattle.finite.specs.Tests.{same, under}
+use Rattle.finite.specs.Tests.{same}
 use Rattle.finite.specs.Range.{count}
 
 -- the nodes are 1..size; a node's principal and secondary parent, 0 for none; a rank that rises along every arc
@@ -46,7 +46,3 @@ pub record Sound (N : Network) : Type 0 where
   pub root-in : Node N root
   pub root-principal : N .principal root ≡ 0
   pub root-one : (v : ℕ) → Node N v → N .principal v ≡ 0 → v ≡ root
-
--- the number of nodes of lower rank: below size for each node, and rising along every arc
-unfoldable pub level : Network → ℕ → ℕ
-level N v = count (N .size) (λ w. under (N .rank w) (N .rank v))

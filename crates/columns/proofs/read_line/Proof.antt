@@ -1,23 +1,22 @@
--- Reading a line. The invariant: the line at the start is the rest of the line at the cursor, after the i numbers read so far.
+-- Reading a line. The invariant: the first i numbers of the line stand at their place of what is lent, and the rest of the line is at the cursor.
 -- Assumes nothing.
 use Prim.Native.Nat.{_-_, _≤_}
-use mathlib.Core.Path.{_≡_, refl, sym, _∙_}
-use mathlib.Core.List.{[]}
-use lib.ListN.{length, take, length-set}
-use Rattle.columns.specs.Lines.{fieldCount, restAt, lineAt}
-use Rattle.columns.proofs.Lines.{read-turn, read-stop, read-done}
+use mathlib.Core.Path.{_≡_, refl}
+use lib.ListN.{length, length-set}
+use Rattle.columns.specs.Lines.{fieldCount}
+use Rattle.columns.proofs.Lines.{Read, read-start, read-turn, read-stop, read-unended, read-done}
 use borrow.Author.Needs.{needs}
 use Rattle.columns.proofs.read_line.Statement.{statement}
 use Rattle.columns.proofs.read_line.Tie as tie
 
 abbrev Inv-loop : tie.InvT-loop
-Inv-loop s line₀ c₀ i₀ line c i = (i ≤ fieldCount) × (length line ≡ fieldCount) × (restAt fieldCount s (c₀ .at) [] ≡ restAt (fieldCount - i) s (c .at) (take i line))
+Inv-loop s numbers₀ place c₀ i₀ numbers c i = (i ≤ fieldCount) × (length numbers ≡ length numbers₀) × Read s (c₀ .at) numbers₀ place (c .at) i numbers
 
 abbrev μ-loop : tie.MeasureT-loop
-μ-loop s line₀ c₀ i₀ line c i = fieldCount - i
+μ-loop s numbers₀ place c₀ i₀ numbers c i = fieldCount - i
 
 loop-holds : tie.Need-loop-holds Inv-loop μ-loop
-loop-holds c = (search needs, refl, refl)
+loop-holds c = (search needs, refl, read-start _ _ _ _)
 
 field-requires : tie.Need-field-requires Inv-loop μ-loop
 field-requires c κs = search needs
@@ -31,17 +30,22 @@ enum-told c = search needs
 no-line-requires : tie.Need-no-line-requires Inv-loop μ-loop
 no-line-requires c κs = search needs
 
+same-length : tie.Need-same-length Inv-loop μ-loop
+same-length c = search needs
+
 returns : tie.Need-returns Inv-loop μ-loop
-unfolding lineAt
 returns c =
-    let l = c .before .before .before .before .before .loop in
-    c .no-line .ensures ∙ sym (l .inv .2 ∙ read-stop _ _ (l .i) _ _ (search needs) (c .before .before .before .field .ensures) (c .before .enum-told .given .1))
+    let l = c .before .before .before .before .before .before .before .before .loop in
+    read-stop (search needs) (l .inv .2) _ _ _ (search needs) (c .before .before .before .before .before .before .field .ensures) (c .before .before .before .before .enum-told .given .1) (c .before .before .no-line .ensures .0) (c .before .before .no-line .ensures .1)
 
-mul-line : tie.Need-mul-line Inv-loop μ-loop
-mul-line c = search needs
+add-numbers : tie.Need-add-numbers Inv-loop μ-loop
+add-numbers c = search needs
 
-array-write-line : tie.Need-array-write-line Inv-loop μ-loop
-array-write-line c = search needs
+mul-numbers : tie.Need-mul-numbers Inv-loop μ-loop
+mul-numbers c = search needs
+
+slice-write-numbers : tie.Need-slice-write-numbers Inv-loop μ-loop
+slice-write-numbers c = search needs
 
 add-i : tie.Need-add-i Inv-loop μ-loop
 add-i c = search needs
@@ -52,16 +56,35 @@ loop-less c = search needs
 loop-again : tie.Need-loop-again Inv-loop μ-loop
 loop-again c =
     let l = c .before .before .before .before .before .loop in
-    (search needs, simp length-set (l .inv .1), l .inv .2 ∙ read-turn _ _ (l .i) _ (l .line) _ _ (search needs) (l .inv .1) (c .before .before .before .field .ensures) (c .before .n .given .1))
+    (search needs, simp length-set (l .inv .1), read-turn (search needs) (l .inv .2) _ _ _ (search needs) (c .before .before .before .field .ensures) (c .before .n .given .1))
 
 line-end-requires : tie.Need-line-end-requires Inv-loop μ-loop
 line-end-requires c κs = search needs
 
+enum-known-after : tie.Need-enum-known-after Inv-loop μ-loop
+enum-known-after c = search needs
+
+enum-told-2 : tie.Need-enum-told-2 Inv-loop μ-loop
+enum-told-2 c = search needs
+
+no-line-requires-2 : tie.Need-no-line-requires-2 Inv-loop μ-loop
+no-line-requires-2 c κs = search needs
+
+same-length-2 : tie.Need-same-length-2 Inv-loop μ-loop
+same-length-2 c = search needs
+
 returns-2 : tie.Need-returns-2 Inv-loop μ-loop
-unfolding lineAt
 returns-2 c =
-    let l = c .before .before .loop in
-    c .line-end .ensures ∙ sym (l .inv .2 ∙ read-done _ _ (l .i) (l .line) (search needs) (search needs) (l .inv .1))
+    let l = c .before .before .before .before .before .before .before .before .loop in
+    read-unended (search needs) (l .inv .2) _ _ _ (search needs) (search needs) (c .before .before .before .before .before .before .line-end .ensures) (c .before .before .before .before .enum-told2 .given .1) (c .before .before .no-line2 .ensures .0) (c .before .before .no-line2 .ensures .1)
+
+same-length-3 : tie.Need-same-length-3 Inv-loop μ-loop
+same-length-3 c = search needs
+
+returns-3 : tie.Need-returns-3 Inv-loop μ-loop
+returns-3 c =
+    let l = c .before .before .before .before .before .loop in
+    read-done (search needs) (l .inv .2) _ _ (search needs) (search needs) (c .before .before .before .line-end .ensures) (c .before .after .given .1)
 
 pub read-line-spec : {M : Type 1} → statement M
 read-line-spec =
@@ -74,11 +97,19 @@ read-line-spec =
     enum-known-n
     enum-told
     no-line-requires
+    same-length
     returns
-    mul-line
-    array-write-line
+    add-numbers
+    mul-numbers
+    slice-write-numbers
     add-i
     loop-less
     loop-again
     line-end-requires
-    returns-2)
+    enum-known-after
+    enum-told-2
+    no-line-requires-2
+    same-length-2
+    returns-2
+    same-length-3
+    returns-3)

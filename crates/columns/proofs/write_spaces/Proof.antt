@@ -5,7 +5,7 @@ use mathlib.Core.Path.{_≡_, refl, _∙_}
 use lib.ListN.{length, replicate, length-set}
 use lib.Seq.{paste, paste-zero}
 use Rattle.columns.specs.Scans.{frontCount}
-use Rattle.columns.proofs.Writing.{spaces-turn, paste-done, put-front}
+use Rattle.columns.proofs.Writing.{repeat-turn, paste-done, put-front}
 use borrow.Author.Needs.{needs}
 use Rattle.columns.proofs.write_spaces.Statement.{statement}
 use Rattle.columns.proofs.write_spaces.Tie as tie
@@ -31,7 +31,7 @@ loop-less c = search needs
 loop-again : tie.Need-loop-again Inv-loop μ-loop
 loop-again c =
     let l = c .before .loop in
-    (search needs, simp length-set (l .inv .1), spaces-turn (c .before .before .args .out .now) (l .out) (l .i) (search needs) (search needs) (l .inv .2))
+    (search needs, simp length-set (l .inv .1), repeat-turn (c .before .before .args .out .now) (l .out) 32 frontCount 0 (l .i) (l .i) (search needs) (search needs) (search needs) (l .inv .2))
 
 same-length : tie.Need-same-length Inv-loop μ-loop
 same-length c = search needs

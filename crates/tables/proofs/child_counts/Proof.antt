@@ -4,8 +4,8 @@ use Prim.Native.Nat.{_-_, _≤_}
 use mathlib.Core.Path.{_∙_}
 use Rattle.tables.specs.Columns.{spaced, Kept}
 use Rattle.tables.specs.Children.{Counted}
-use Rattle.tables.proofs.Columns.{kept-none, kept-then}
-use Rattle.tables.proofs.Counts.{counted-start, counted-done}
+use Rattle.tables.proofs.Columns.{spaced-in, kept-none}
+use Rattle.tables.proofs.Counts.{counted-start, counted-turn, counted-few, counted-done, kept-raised}
 use borrow.Author.Needs.{needs}
 use Rattle.tables.proofs.child_counts.Statement.{statement}
 use Rattle.tables.proofs.child_counts.Tie as tie
@@ -19,17 +19,20 @@ abbrev μ-loop : tie.MeasureT-loop
 loop-holds : tie.Need-loop-holds Inv-loop μ-loop
 loop-holds c = let s = c .before .pre in (search needs, counted-start _ _ _ (s .0) (s .2) _ (s .3), kept-none _ _)
 
-count-next-requires : tie.Need-count-next-requires Inv-loop μ-loop
-count-next-requires c κs = search needs
+add-w : tie.Need-add-w Inv-loop μ-loop
+add-w c = search needs
 
-add-v : tie.Need-add-v Inv-loop μ-loop
-add-v c = search needs
+spaced-requires : tie.Need-spaced-requires Inv-loop μ-loop
+spaced-requires c κs = spaced-in _ _ _ _ _ (search needs) (c .before .before .before .pre .1)
+
+count-at-requires : tie.Need-count-at-requires Inv-loop μ-loop
+count-at-requires c κs = (search needs, search needs, counted-few _ _ _ (c .before .before .before .before .before .pre .0) (c .before .before .before .before .before .pre .2) _ _ _ (c .before .before .before .loop .inv .0) (c .before .before .before .loop .inv .1))
 
 loop-less : tie.Need-loop-less Inv-loop μ-loop
 loop-less c = search needs
 
 loop-again : tie.Need-loop-again Inv-loop μ-loop
-loop-again c = (search needs, c .count-next .ensures .0, kept-then _ _ _ _ (c .before .before .before .loop .inv .2) (c .count-next .ensures .1))
+loop-again c = let s = c .before .before .before .before .before .before .pre in let i = c .before .before .before .before .loop .inv in (search needs, counted-turn _ _ _ (s .0) (s .2) _ _ _ _ (c .before .before .spaced .ensures) (c .count-at .ensures) (i .1), kept-raised _ _ _ _ _ _ (s .0) (c .count-at .ensures) (i .2))
 
 put-requires : tie.Need-put-requires Inv-loop μ-loop
 put-requires c κs = search needs
@@ -47,8 +50,9 @@ child-counts-spec =
     Inv-loop
     μ-loop
     loop-holds
-    count-next-requires
-    add-v
+    add-w
+    spaced-requires
+    count-at-requires
     loop-less
     loop-again
     put-requires

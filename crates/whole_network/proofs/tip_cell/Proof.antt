@@ -1,65 +1,43 @@
 -- `whole_network::tip_cell` meets its contract. The word of the clauses is the least cost, for what it is computed from is filled before.
 -- Assumes nothing.
-use Rattle.histories.proofs.Filling.{limits-are, turn-node, turn-inside, turn-low, turn-start, turn-own, turn-tip, turn-kept}
+use Rattle.whole_network.proofs.Turns.{node-low, node-few, word-inside, word-low, row-starts, own-ends, tip-put}
 use native.Mathlib.Omega.{arith}
 use borrow.Author.Needs.{needs}
 use Rattle.whole_network.proofs.tip_cell.Statement.{statement}
 use Rattle.whole_network.proofs.tip_cell.Tie as tie
 
-wide-requires : tie.Need-wide-requires
-wide-requires c κs = search needs
-
-wide-requires-2 : tie.Need-wide-requires-2
-wide-requires-2 c κs = search needs
-
-add-wide : tie.Need-add-wide
-add-wide c = search needs
-
-mul-wide : tie.Need-mul-wide
-mul-wide c = let q = limits-are _ _ _ _ _ _ _ _ _ _ _ _ _ (c .before .before .before .pre .0 .0 .prepared) in omega (arith, c .before .before .before .pre .0 .2)
-
-element-copy-out-wide : tie.Need-element-copy-out-wide
-element-copy-out-wide c = let q = limits-are _ _ _ _ _ _ _ _ _ _ _ _ _ (c .before .before .before .pre .0 .0 .prepared) in omega (arith, c .before .before .before .pre .0 .2)
-
-wide-requires-3 : tie.Need-wide-requires-3
-wide-requires-3 c κs = search needs
+order-requires : tie.Need-order-requires
+order-requires c κs = omega (arith, c .before .pre .1 .1, c .before .pre .0 .0 .limits .few-nodes)
 
 tip-word-requires : tie.Need-tip-word-requires
-tip-word-requires c κs =
-    let q = limits-are _ _ _ _ _ _ _ _ _ _ _ _ _ (c .before .before .before .before .before .before .pre .0 .0 .prepared) in let u = turn-node _ _ _ _ _ _ _ _ _ _ _ _ _ _ _ _ _ _ (c .before .before .before .before .before .before .pre .0 .0) (c .before .before .before .before .before .before .pre .0 .1) (c .before .before .before .before .before .before .pre .0 .2) (c .before .wide3 .ensures) in
-    (turn-start _ _ _ _ _ _ _ _ _ _ _ _ _ _ _ _ _ _ (c .before .before .before .before .before .before .pre .0 .0) (c .before .before .before .before .before .before .pre .0 .1) (c .before .before .before .before .before .before .pre .0 .2) (c .before .wide3 .ensures), omega arith, omega (arith, c .before .before .before .before .wide .ensures), omega (arith, c .before .before .before .wide2 .ensures), turn-own _ _ _ _ _ _ _ _ _ _ _ _ _ _ _ _ _ _ (c .before .before .before .before .before .before .pre .0 .0) (c .before .before .before .before .before .before .pre .0 .1) (c .before .before .before .before .before .before .pre .0 .2) (c .before .wide3 .ensures))
+tip-word-requires c κs = (c .before .before .before .pre .0 .0 .limits, node-few (c .before .before .before .pre .0 .0) (c .before .before .before .pre .0 .1 .gene) (c .before .before .before .pre .1 .0) (c .before .before .before .pre .1 .1) (c .before .before .before .pre .1 .2) (c .before .order .ensures), row-starts (c .before .before .before .pre .0 .0) (c .before .before .before .pre .0 .1 .gene) (c .before .before .before .pre .1 .0) (c .before .before .before .pre .1 .1) (c .before .before .before .pre .1 .2) (c .before .order .ensures), own-ends (c .before .before .before .pre .0 .0) (c .before .before .before .pre .0 .1 .gene) (c .before .before .before .pre .1 .0) (c .before .before .before .pre .1 .1) (c .before .before .before .pre .1 .2) (c .before .order .ensures))
 
-sub-scratch : tie.Need-sub-scratch
-sub-scratch c = (turn-node _ _ _ _ _ _ _ _ _ _ _ _ _ _ _ _ _ _ (c .before .before .before .before .before .before .before .pre .0 .0) (c .before .before .before .before .before .before .before .pre .0 .1) (c .before .before .before .before .before .before .before .pre .0 .2) (c .before .before .wide3 .ensures)) .0
+sub-at : tie.Need-sub-at
+sub-at c = node-low (c .before .before .before .before .pre .0 .0) (c .before .before .before .before .pre .0 .1 .gene) (c .before .before .before .before .pre .1 .0) (c .before .before .before .before .pre .1 .1) (c .before .before .before .before .pre .1 .2) (c .before .before .order .ensures)
 
-add-scratch : tie.Need-add-scratch
-add-scratch c = omega (arith, turn-low _ _ _ _ _ _ _ _ _ _ _ _ _ _ _ _ _ _ (c .before .before .before .before .before .before .before .pre .0 .0) (c .before .before .before .before .before .before .before .pre .0 .1) (c .before .before .before .before .before .before .before .pre .0 .2) (c .before .before .wide3 .ensures))
+add-at : tie.Need-add-at
+add-at c = omega (arith, word-low (c .before .before .before .before .before .pre .0 .0) (c .before .before .before .before .before .pre .0 .1 .gene) (c .before .before .before .before .before .pre .1 .0) (c .before .before .before .before .before .pre .1 .1) (c .before .before .before .before .before .pre .1 .2) (c .before .before .before .order .ensures))
 
 mul-scratch : tie.Need-mul-scratch
-mul-scratch c = omega (arith, turn-low _ _ _ _ _ _ _ _ _ _ _ _ _ _ _ _ _ _ (c .before .before .before .before .before .before .before .pre .0 .0) (c .before .before .before .before .before .before .before .pre .0 .1) (c .before .before .before .before .before .before .before .pre .0 .2) (c .before .before .wide3 .ensures))
+mul-scratch c = omega (arith, word-low (c .before .before .before .before .before .pre .0 .0) (c .before .before .before .before .before .pre .0 .1 .gene) (c .before .before .before .before .before .pre .1 .0) (c .before .before .before .before .before .pre .1 .1) (c .before .before .before .before .before .pre .1 .2) (c .before .before .before .order .ensures))
 
 slice-write-scratch : tie.Need-slice-write-scratch
-slice-write-scratch c = turn-inside _ _ _ _ _ _ _ _ _ _ _ _ _ _ _ _ _ _ (c .before .before .before .before .before .before .before .pre .0 .0) (c .before .before .before .before .before .before .before .pre .0 .1) (c .before .before .before .before .before .before .before .pre .0 .2) (c .before .before .wide3 .ensures)
+slice-write-scratch c = word-inside (c .before .before .before .before .before .pre .0 .0) (c .before .before .before .before .before .pre .0 .1 .gene) (c .before .before .before .before .before .pre .1 .0) (c .before .before .before .before .before .pre .1 .1) (c .before .before .before .before .before .pre .1 .2) (c .before .before .before .order .ensures)
 
 same-length : tie.Need-same-length
 same-length c = search needs
 
 returns : tie.Need-returns
-returns c = (turn-tip _ _ _ _ _ _ _ _ _ _ _ _ _ _ _ _ _ _ (c .before .before .before .before .before .before .before .pre .0 .0) (c .before .before .before .before .before .before .before .pre .0 .1) (c .before .before .before .before .before .before .before .pre .0 .2) (c .before .before .wide3 .ensures) _ (c .before .before .before .before .before .before .before .pre .1 .0) (rw (c .before .before .before .before .before .wide .ensures, c .before .before .before .before .wide2 .ensures, c .before .before .before .before .before .before .before .pre .1 .1) at (c .tip-word .ensures)), turn-kept _ _ _ _ _ _ _ _ _ _ _ _ _ _ _ _ _ _ (c .before .before .before .before .before .before .before .pre .0 .0) (c .before .before .before .before .before .before .before .pre .0 .1) (c .before .before .before .before .before .before .before .pre .0 .2) (c .before .before .wide3 .ensures) _)
+returns c = tip-put (c .before .before .before .before .before .pre .0 .0) (c .before .before .before .before .before .pre .0 .1 .gene) (c .before .before .before .before .before .pre .1 .0) (c .before .before .before .before .before .pre .1 .1) (c .before .before .before .before .before .pre .1 .2) (c .before .before .before .order .ensures) (c .before .before .before .before .before .pre .0 .1 .tip) _ (c .before .before .before .before .before .pre .0 .1 .species) _ (c .before .tip-word .ensures)
 
 pub tip-cell-spec : {M : Type 1} → statement M
 tip-cell-spec =
     tie.close
     (tie.spec
-    wide-requires
-    wide-requires-2
-    add-wide
-    mul-wide
-    element-copy-out-wide
-    wide-requires-3
+    order-requires
     tip-word-requires
-    sub-scratch
-    add-scratch
+    sub-at
+    add-at
     mul-scratch
     slice-write-scratch
     same-length

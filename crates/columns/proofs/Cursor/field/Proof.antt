@@ -23,11 +23,20 @@ scan-requires c κs = (search needs, search needs, c .before .blank-front .ensur
 returns-3 : tie.Need-returns-3
 returns-3 c = search needs
 
+pair-requires : tie.Need-pair-requires
+pair-requires c κs = search needs
+
 scan-requires-2 : tie.Need-scan-requires-2
-scan-requires-2 c κs = search needs
+scan-requires-2 c κs = (search needs, search needs, c .before .pair .ensures .0 .0 (c .if4 .taken))
 
 returns-4 : tie.Need-returns-4
 returns-4 c = search needs
+
+scan-requires-3 : tie.Need-scan-requires-3
+scan-requires-3 c κs = search needs
+
+returns-5 : tie.Need-returns-5
+returns-5 c = search needs
 
 pub field-spec : {M : Type 1} → statement M
 field-spec =
@@ -39,5 +48,8 @@ field-spec =
     blank-front-requires
     scan-requires
     returns-3
+    pair-requires
     scan-requires-2
-    returns-4)
+    returns-4
+    scan-requires-3
+    returns-5)

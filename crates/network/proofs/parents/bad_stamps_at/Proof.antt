@@ -1,68 +1,40 @@
--- The stamps read are those of the parents that the tables hold.
+-- The parents whose stamps are read are nodes, since 6 has passed.
 -- Assumes nothing.
-use Rattle.network.specs.Refusals.{badStampsAt}
+use Rattle.network.proofs.AsRead.{principal-low, secondary-low, stamps-read}
+use native.Mathlib.Omega.{arith}
 use borrow.Author.Needs.{needs}
 use Rattle.network.proofs.parents.bad_stamps_at.Statement.{statement}
 use Rattle.network.proofs.parents.bad_stamps_at.Tie as tie
 
-mul-wide : tie.Need-mul-wide
-mul-wide c = search needs
+principal-requires : tie.Need-principal-requires
+principal-requires c κs = search needs
 
-element-copy-out-wide : tie.Need-element-copy-out-wide
-element-copy-out-wide c = search needs
+secondary-requires : tie.Need-secondary-requires
+secondary-requires c κs = search needs
 
-wide-requires : tie.Need-wide-requires
-wide-requires c κs = search needs
+stamp-requires : tie.Need-stamp-requires
+stamp-requires c κs = omega (arith, principal-low _ _ _ (c .before .before .pre .0 .1) (c .before .before .pre .0 .2) (c .before .before .pre .1), c .before .principal .ensures)
 
-mul-wide-2 : tie.Need-mul-wide-2
-mul-wide-2 c = search needs
+stamp-requires-2 : tie.Need-stamp-requires-2
+stamp-requires-2 c κs = omega (arith, secondary-low _ _ _ (c .before .before .before .pre .0 .1) (c .before .before .before .pre .0 .2) (c .before .before .before .pre .1), c .before .secondary .ensures)
 
-element-copy-out-wide-2 : tie.Need-element-copy-out-wide-2
-element-copy-out-wide-2 c = search needs
-
-wide-requires-2 : tie.Need-wide-requires-2
-wide-requires-2 c κs = search needs
-
-mul-bad-stamps : tie.Need-mul-bad-stamps
-mul-bad-stamps c = search needs
-
-element-copy-out-bad-stamps : tie.Need-element-copy-out-bad-stamps
-element-copy-out-bad-stamps c = search needs
-
-mul-bad-stamps-2 : tie.Need-mul-bad-stamps-2
-mul-bad-stamps-2 c = search needs
-
-element-copy-out-bad-stamps-2 : tie.Need-element-copy-out-bad-stamps-2
-element-copy-out-bad-stamps-2 c = search needs
-
-mul-bad-stamps-3 : tie.Need-mul-bad-stamps-3
-mul-bad-stamps-3 c = search needs
-
-element-copy-out-bad-stamps-3 : tie.Need-element-copy-out-bad-stamps-3
-element-copy-out-bad-stamps-3 c = search needs
+stamp-requires-3 : tie.Need-stamp-requires-3
+stamp-requires-3 c κs = search needs
 
 bad-stamps-requires : tie.Need-bad-stamps-requires
 bad-stamps-requires c κs = search needs
 
 returns : tie.Need-returns
-unfolding badStampsAt
-returns c = cc
+returns c = stamps-read _ _ _ (c .before .before .before .before .before .before .pre .0 .1) (c .before .before .before .before .before .before .pre .0 .2) (c .before .before .before .before .before .before .pre .1) _ _ _ _ _ _ (c .before .before .before .before .before .principal .ensures) (c .before .before .before .before .secondary .ensures) (c .before .before .before .stamp .ensures) (c .before .before .stamp2 .ensures) (c .before .stamp3 .ensures) (c .bad-stamps .ensures)
 
 pub bad-stamps-at-spec : {M : Type 1} → statement M
 bad-stamps-at-spec =
     tie.close
     (tie.spec
-    mul-wide
-    element-copy-out-wide
-    wide-requires
-    mul-wide-2
-    element-copy-out-wide-2
-    wide-requires-2
-    mul-bad-stamps
-    element-copy-out-bad-stamps
-    mul-bad-stamps-2
-    element-copy-out-bad-stamps-2
-    mul-bad-stamps-3
-    element-copy-out-bad-stamps-3
+    principal-requires
+    secondary-requires
+    stamp-requires
+    stamp-requires-2
+    stamp-requires-3
     bad-stamps-requires
     returns)

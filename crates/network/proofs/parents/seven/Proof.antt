@@ -1,21 +1,21 @@
--- No node tested so far has bad stamps; the parents whose stamps are read are nodes, since 6 has passed.
+-- No node tested so far has bad stamps; one that has settles the answer.
 -- Assumes nothing.
-use Rattle.network.proofs.Acceptance.{principal-small, secondary-small}
 use Prim.Native.Nat.{_-_, _≤_}
 use mathlib.Core.Path.{_≡_}
 use mathlib.Core.Bool.{false}
-use borrow.Author.Needs.{needs}
+use Rattle.layout.specs.Lines.{nodesIn}
 use Rattle.finite.specs.Range.{some}
+use Rattle.finite.proofs.Every.{some-loop}
 use Rattle.network.specs.Refusals.{refusal7, badStampsAt}
-use Rattle.network.proofs.Loops.{some-loop}
+use borrow.Author.Needs.{needs}
 use Rattle.network.proofs.parents.seven.Statement.{statement}
 use Rattle.network.proofs.parents.seven.Tie as tie
 
 abbrev Inv-loop : tie.InvT-loop
-Inv-loop n principal secondary stamp v₀ v = (v ≤ n) × (some v (badStampsAt principal secondary stamp) ≡ false)
+Inv-loop n lines v₀ v = (v ≤ n) × (some v (badStampsAt (nodesIn n lines)) ≡ false)
 
 abbrev μ-loop : tie.MeasureT-loop
-μ-loop n principal secondary stamp v₀ v = n - v
+μ-loop n lines v₀ v = n - v
 
 loop-holds : tie.Need-loop-holds Inv-loop μ-loop
 loop-holds c = search (needs, some-loop)
@@ -24,12 +24,10 @@ add-bad-stamps-at : tie.Need-add-bad-stamps-at Inv-loop μ-loop
 add-bad-stamps-at c = search needs
 
 bad-stamps-at-requires : tie.Need-bad-stamps-at-requires Inv-loop μ-loop
-bad-stamps-at-requires c κs =
-    let a = c .before .before in
-    (search needs, (principal-small _ _ (a .args .principal .now) (a .args .secondary .now) (a .pre .1) (c .loop-test .taken) (a .pre .0), secondary-small _ _ (a .args .principal .now) (a .args .secondary .now) (a .pre .1) (c .loop-test .taken) (a .pre .0)))
+bad-stamps-at-requires c κs = search needs
 
 returns : tie.Need-returns Inv-loop μ-loop
-unfolding refusal7
+unfolding refusal7 nodesIn
 returns c = search (needs, some-loop)
 
 add-v : tie.Need-add-v Inv-loop μ-loop
@@ -42,7 +40,7 @@ loop-again : tie.Need-loop-again Inv-loop μ-loop
 loop-again c = search (needs, some-loop)
 
 returns-2 : tie.Need-returns-2 Inv-loop μ-loop
-unfolding refusal7
+unfolding refusal7 nodesIn
 returns-2 c = search (needs, some-loop)
 
 pub seven-spec : {M : Type 1} → statement M

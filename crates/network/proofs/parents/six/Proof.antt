@@ -1,12 +1,11 @@
 -- A node with bad parents settles the answer, else the number of nodes without a principal parent does.
 -- Assumes nothing.
-use Prim.Native.Nat.{ℕ}
-use mathlib.Core.Path.{sym, ap}
-use mathlib.Core.Bool.{not}
+use mathlib.Core.Path.{sym}
 use Rattle.finite.specs.Tests.{same}
-use Rattle.finite.proofs.Tests.{test-laws, told-laws, told}
+use Rattle.layout.specs.Lines.{nodesIn}
+use Rattle.finite.proofs.Tests.{or-yes-l, or-rest, told}
 use Rattle.network.specs.Refusals.{refusal6}
-use Rattle.network.proofs.Loops.{or-rest}
+use Rattle.network.proofs.AsRead.{roots-read}
 use borrow.Author.Needs.{needs}
 use Rattle.network.proofs.parents.six.Statement.{statement}
 use Rattle.network.proofs.parents.six.Tie as tie
@@ -15,15 +14,15 @@ some-bad-parents-requires : tie.Need-some-bad-parents-requires
 some-bad-parents-requires c κs = search needs
 
 returns : tie.Need-returns
-unfolding refusal6
-returns c = sym (search (needs, test-laws, told-laws) depth 9)
+unfolding refusal6 nodesIn
+returns c = sym (or-yes-l _ _ (told _ _ _ (c .before .some-bad-parents .ensures) (c .if1 .taken)))
 
 count-of-requires : tie.Need-count-of-requires
 count-of-requires c κs = search needs
 
 returns-2 : tie.Need-returns-2
-unfolding refusal6 same
-returns-2 c = or-rest _ _ _ (told _ _ _ (c .before .before .some-bad-parents .ensures) (c .before .if1 .left)) (ap (λ (x : ℕ). not (same x 1)) (c .count-of .ensures .0))
+unfolding refusal6 nodesIn same
+returns-2 c = or-rest _ _ _ (told _ _ _ (c .before .before .before .some-bad-parents .ensures) (c .before .before .if1 .left)) (roots-read _ _ _ (c .count-of .ensures .0))
 
 pub six-spec : {M : Type 1} → statement M
 six-spec = tie.close (tie.spec some-bad-parents-requires returns count-of-requires returns-2)

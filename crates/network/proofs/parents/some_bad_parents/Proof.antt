@@ -3,42 +3,47 @@
 use Prim.Native.Nat.{_-_, _≤_}
 use mathlib.Core.Path.{_≡_}
 use mathlib.Core.Bool.{false}
-use borrow.Author.Needs.{needs}
+use Rattle.layout.specs.Lines.{nodesIn}
 use Rattle.finite.specs.Range.{some}
+use Rattle.finite.proofs.Every.{some-start, some-turn, some-stop, some-done}
 use Rattle.network.specs.Refusals.{badParentsAt}
-use Rattle.network.proofs.Loops.{some-loop}
+use Rattle.network.proofs.AsRead.{parents-read}
+use borrow.Author.Needs.{needs}
 use Rattle.network.proofs.parents.some_bad_parents.Statement.{statement}
 use Rattle.network.proofs.parents.some_bad_parents.Tie as tie
 
 abbrev Inv-loop : tie.InvT-loop
-Inv-loop n principal secondary v₀ v = (v ≤ n) × (some v (badParentsAt n principal secondary) ≡ false)
+Inv-loop n lines v₀ v = (v ≤ n) × (some v (badParentsAt (nodesIn n lines)) ≡ false)
 
 abbrev μ-loop : tie.MeasureT-loop
-μ-loop n principal secondary v₀ v = n - v
+μ-loop n lines v₀ v = n - v
 
 loop-holds : tie.Need-loop-holds Inv-loop μ-loop
-loop-holds c = search (needs, some-loop)
+loop-holds c = (search needs, some-start _)
 
-add-bad-parents-at : tie.Need-add-bad-parents-at Inv-loop μ-loop
-add-bad-parents-at c = search needs
+add-w : tie.Need-add-w Inv-loop μ-loop
+add-w c = search needs
 
-bad-parents-at-requires : tie.Need-bad-parents-at-requires Inv-loop μ-loop
-bad-parents-at-requires c κs = search needs
+principal-requires : tie.Need-principal-requires Inv-loop μ-loop
+principal-requires c κs = search needs
+
+secondary-requires : tie.Need-secondary-requires Inv-loop μ-loop
+secondary-requires c κs = search needs
+
+bad-parents-requires : tie.Need-bad-parents-requires Inv-loop μ-loop
+bad-parents-requires c κs = search needs
 
 returns : tie.Need-returns Inv-loop μ-loop
-returns c = search (needs, some-loop)
-
-add-v : tie.Need-add-v Inv-loop μ-loop
-add-v c = search needs
+returns c = some-stop _ _ _ _ (c .before .before .before .before .loop-test .taken) (parents-read _ _ _ (search needs) (search needs) _ _ _ (c .before .before .before .principal .ensures) (c .before .before .secondary .ensures) (c .before .bad-parents .ensures)) (c .if1 .taken)
 
 loop-less : tie.Need-loop-less Inv-loop μ-loop
 loop-less c = search needs
 
 loop-again : tie.Need-loop-again Inv-loop μ-loop
-loop-again c = search (needs, some-loop)
+loop-again c = (search needs, some-turn _ _ _ (c .before .before .before .before .before .loop .inv .1) (parents-read _ _ _ (search needs) (search needs) _ _ _ (c .before .before .before .principal .ensures) (c .before .before .secondary .ensures) (c .before .bad-parents .ensures)) (c .if1 .left))
 
 returns-2 : tie.Need-returns-2 Inv-loop μ-loop
-returns-2 c = search (needs, some-loop)
+returns-2 c = some-done _ _ _ (c .before .loop .inv .0) (search needs) (c .before .loop .inv .1)
 
 pub some-bad-parents-spec : {M : Type 1} → statement M
 some-bad-parents-spec =
@@ -47,10 +52,11 @@ some-bad-parents-spec =
     Inv-loop
     μ-loop
     loop-holds
-    add-bad-parents-at
-    bad-parents-at-requires
+    add-w
+    principal-requires
+    secondary-requires
+    bad-parents-requires
     returns
-    add-v
     loop-less
     loop-again
     returns-2)

@@ -1,0 +1,50 @@
+-- The leaf is told by the arcs out in the table; each return stands behind the tests that the definition asks.
+-- Assumes nothing.
+use Rattle.finite.specs.Tests.{same}
+use Rattle.shapes.proofs.AsRead.{other-read, bare-read, borne-read}
+use borrow.Author.Needs.{needs}
+use Rattle.shapes.proofs.refusals.wrong_species_at.Statement.{statement}
+use Rattle.shapes.proofs.refusals.wrong_species_at.Tie as tie
+
+node-species-requires : tie.Need-node-species-requires
+node-species-requires c κs = search needs
+
+index-requires : tie.Need-index-requires
+index-requires c κs = search needs
+
+index-requires-2 : tie.Need-index-requires-2
+index-requires-2 c κs = search needs
+
+secondary-requires : tie.Need-secondary-requires
+secondary-requires c κs = search needs
+
+leaf-with-requires : tie.Need-leaf-with-requires
+leaf-with-requires c κs = search needs
+
+returns : tie.Need-returns
+unfolding same
+returns c = other-read _ _ _ (c .before .before .before .before .before .before .pre .0 .1) (c .before .before .before .before .before .before .pre .0 .2) _ (c .before .before .before .before .before .before .pre .1) _ _ (c .before .before .before .before .index .ensures) (c .before .before .before .index2 .ensures) _ _ _ (c .before .before .secondary .ensures) (c .before .before .before .before .before .node-species .ensures) (c .before .leaf-with .ensures) (c .if1 .taken)
+
+returns-2 : tie.Need-returns-2
+returns-2 c = bare-read _ _ _ (c .before .before .before .before .before .before .before .pre .0 .1) (c .before .before .before .before .before .before .before .pre .0 .2) _ (c .before .before .before .before .before .before .before .pre .1) _ _ (c .before .before .before .before .before .index .ensures) (c .before .before .before .before .index2 .ensures) _ _ _ (c .before .before .before .secondary .ensures) (c .before .before .before .before .before .before .node-species .ensures) (c .before .before .leaf-with .ensures) (c .before .if1 .left) (c .if2 .taken)
+
+bearers-requires : tie.Need-bearers-requires
+bearers-requires c κs = search needs
+
+returns-3 : tie.Need-returns-3
+unfolding same
+returns-3 c = borne-read _ _ _ (c .before .before .before .before .before .before .before .before .pre .0 .1) (c .before .before .before .before .before .before .before .before .pre .0 .2) _ (c .before .before .before .before .before .before .before .before .pre .1) _ _ (c .before .before .before .before .before .before .index .ensures) (c .before .before .before .before .before .index2 .ensures) _ _ _ (c .before .before .before .before .secondary .ensures) (c .before .before .before .before .before .before .before .node-species .ensures) (c .before .before .before .leaf-with .ensures) _ (c .before .before .if1 .left) (c .before .if2 .left) (c .bearers .ensures)
+
+pub wrong-species-at-spec : {M : Type 1} → statement M
+wrong-species-at-spec =
+    tie.close
+    (tie.spec
+    node-species-requires
+    index-requires
+    index-requires-2
+    secondary-requires
+    leaf-with-requires
+    returns
+    returns-2
+    bearers-requires
+    returns-3)
