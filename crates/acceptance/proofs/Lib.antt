@@ -1,4 +1,2 @@
-pub mod Whole
 pub mod Mapped
-pub mod Least
-pub mod Promise
+pub mod Whole

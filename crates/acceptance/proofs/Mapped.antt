@@ -1,68 +1,100 @@
 -- An admitted sheet under the LCA mapping: its network is sound and its gene tree rooted and seated, so the theorem of the optimum applies to it, and
--- every number that the report writes is within the limits of the header.
+-- every number that the report writes is within the limits of the header. A species is borne by a leaf alone, so leaf genes sit at leaves.
 -- Assumes nothing.
-use mathlib.Core.Path.{_≡_, refl}
-use mathlib.Core.List.{List}
-use Prim.Native.Nat.{ℕ, _*_, _≤_, _<_}
+use mathlib.Core.Path.{_≡_, refl, sym, _∙_, ap}
+use mathlib.Core.Logic.{_≢_}
+use Prim.Native.Nat.{ℕ, _+_, _*_, _≤_, _<_}
 use native.Mathlib.Omega.{arith}
-use Rattle.finite.specs.Range.{count}
+use Rattle.finite.specs.Range.{count, children}
 use Rattle.topology.specs.Networks.{Network, Node, Sound, isReticulation, reticulations}
 use Rattle.topology.specs.Switchings.{Switching, parent}
 use Rattle.topology.specs.Components.{component, members}
-use Rattle.topology.specs.Tables.{networkOf}
+use Rattle.topology.specs.Lines.{NodeLines, GeneLines, network}
 use Rattle.topology.proofs.Above.{parent-cases, byNode}
 use Rattle.topology.proofs.Components.{component-top, top-root, component-node}
+use Rattle.shapes.specs.Refusals.{Shape, IsLeaf, reticulation, inner, leaf}
+use Rattle.network.specs.Accepted.{AcceptedNetwork}
+use Rattle.network.proofs.Acceptance.{accepted}
 use Rattle.network.proofs.Bounds.{accepted-reticulations}
+use Rattle.components.proofs.Readings.{few-members, components-accepted}
 use Rattle.reconciliation.specs.GeneTrees.{GeneTree, Rooted, Seated}
-use Rattle.reconciliation.specs.Mapping.{Costs, place, event, transfers, losses, duplicationCount, transferCount, lossCount, lcaCost}
+use Rattle.reconciliation.specs.Costs.{Costs}
 use Rattle.reconciliation.specs.Limits.{Limits}
-use Rattle.reconciliation.proofs.Places.{place-node}
-use Rattle.reconciliation.proofs.Events.{event-small}
-use Rattle.reconciliation.proofs.Bounds.{transfers-le, losses-le}
-use Rattle.gene_tree.specs.Genes.{geneTreeOf}
-use Rattle.gene_tree.proofs.Genes.{rooted as tree-rooted, seated as tree-seated}
+use Rattle.displayed.specs.Model.{place, event, transfers, losses, duplicationCount, transferCount, lossCount, lcaCost}
+use Rattle.displayed.proofs.Model.{place-node, event-small, transfers-le, losses-le}
+use Rattle.gene_tree.specs.Refusals.{Gene}
+use Rattle.gene_tree.specs.Genes.{geneTreeOf, SeatAt}
+use Rattle.gene_tree.proofs.Refusals.{accept-12, accept-13}
+use Rattle.gene_tree.proofs.Genes.{count-at} 
+use Rattle.gene_tree.proofs.Genes as T
 use Rattle.optimum.specs.Optimum.{trials, chosen, Optimal}
 use Rattle.optimum.proofs.Optimum.{chosen-optimal}
 use Rattle.optimum.proofs.Bounds.{chosen-small, duplications-small as few-duplications, transfers-small as few-transfers, losses-small as few-losses, trials-small as few-trials}
 use Rattle.acceptance.specs.Admitted.{Admitted}
-use Rattle.acceptance.proofs.Whole.{network-accepted}
 
-module _ (n m d t l : ℕ) (principal secondary stamp species parents kind : List ℕ) (ok : Admitted n m d t l principal secondary stamp species parents kind) where
+-- no more than two arcs leave a node of any shape
+few-arcs : (N : Network) (v : ℕ) → Shape N v → children (N .size) (N .principal) v + children (N .size) (N .secondary) v ≤ 2
+few-arcs N v (reticulation r) = omega (arith, r .one-principal, r .no-secondary)
+few-arcs N v (inner r) = omega (arith, r .two-arcs)
+few-arcs N v (leaf r) = omega (arith, r .no-principal, r .no-secondary)
+
+module _ (L : NodeLines) (K : GeneLines) (C : Costs) (ok : Admitted L K C) where
   abbrev N : Network
-  N = networkOf n principal secondary stamp
+  N = network L
 
   abbrev G : GeneTree
-  G = geneTreeOf n m parents kind species
+  G = geneTreeOf L K
 
-  abbrev C : Costs
-  C = record { duplication = d; transfer = t; loss = l }
-
-  -- the size of the network and of the gene tree
-  size-is : N .size ≡ n
-  unfolding networkOf
+  size-is : N .size ≡ L .size
+  unfolding network
   size-is = refl
 
-  count-is : G .count ≡ m
-  unfolding geneTreeOf
-  count-is = refl
+  pub network-accepted : AcceptedNetwork L
+  network-accepted = accepted L (ok .others) (ok .network)
 
   -- what the theory asks of the network, the gene tree and the costs
   pub sound : Sound N
-  sound = network-accepted n m d t l principal secondary stamp species parents kind ok .sound
+  sound = network-accepted .sound
 
   pub rooted : Rooted G
-  rooted = tree-rooted n m parents kind species (ok .some-gene) (ok .gene-tree)
+  rooted = T.rooted L K (ok .some-gene) (accept-12 L K (ok .genes))
+
+  gene : (g : ℕ) → 1 ≤ g → g ≤ G .count → Gene K g
+  gene g l u = record { low = l; high = omega (arith, count-at L K) }
+
+  seat-at : (g : ℕ) → 1 ≤ g → g ≤ G .count → G .left g ≡ 0 → SeatAt L K g (G .leaf g)
+  seat-at g l u e = T.seated L (accept-13 L K (ok .genes)) g (gene g l u) e
+
+  seat-node : (g : ℕ) → 1 ≤ g → g ≤ G .count → G .left g ≡ 0 → Node N (G .leaf g)
+  seat-node g l u e = let s = seat-at g l u e in record { low = s .low; high = omega (arith, size-is, s .high) }
+
+  -- a node with a species is a leaf
+  bears-leaf : (v : ℕ) → Node N v → L .species v ≢ 0 → IsLeaf N v
+  bears-leaf v k d = go (network-accepted .shape v k)
+    where
+      go : Shape N v → IsLeaf N v
+      go (leaf r) = r
+      go (reticulation r) = absurd (d (network-accepted .other-species v k (λ q. omega (arith, q .no-principal, r .one-principal))))
+      go (inner r) = absurd (d (network-accepted .other-species v k (λ q. omega (arith, q .no-principal, q .no-secondary, r .two-arcs))))
+
+  pub leaf-at : (g : ℕ) → 1 ≤ g → g ≤ G .count → G .left g ≡ 0 → IsLeaf N (G .leaf g)
+  leaf-at g l u e = let s = seat-at g l u e in bears-leaf (G .leaf g) (seat-node g l u e) (λ z. s .some (sym (s .bears) ∙ z))
 
   pub seated : Seated N G
-  seated = tree-seated n m parents kind species (ok .some-gene) (ok .gene-tree) N size-is
+  seated = record {
+    seat = seat-node;
+    no-principal = λ g l u e. leaf-at g l u e .no-principal;
+    no-secondary = λ g l u e. leaf-at g l u e .no-secondary;
+    few = λ v k. few-arcs N v (network-accepted .shape v k);
+  }
 
   pub limits : Limits N G C
   limits = record {
     nodes = omega (arith, size-is, ok .few-nodes);
-    genes = omega (arith, count-is, ok .few-genes);
-    duplication = ok .duplication-low;
-    transfer = ok .transfer-low;
-    loss = ok .loss-low;
+    genes = omega (arith, count-at L K, ok .few-genes);
+    duplication = ok .duplication;
+    transfer = ok .transfer;
+    loss = ok .loss;
   }
 
   -- no switching of the whole network is cheaper than the one chosen, and none that is as cheap comes before it
@@ -84,13 +116,13 @@ module _ (n m d t l : ℕ) (principal secondary stamp species parents kind : Lis
 
   -- no component has more than 8 reticulations, fewer than half of the nodes are reticulations, and the trials are no more than 2,016
   pub members-few : (c : ℕ) → members N c ≤ 8
-  members-few = network-accepted n m d t l principal secondary stamp species parents kind ok .few
+  members-few = few-members N sound (components-accepted L (ok .component))
 
-  pub reticulations-few : 2 * reticulations N < n
-  reticulations-few = omega (arith, size-is, accepted-reticulations N species (network-accepted n m d t l principal secondary stamp species parents kind ok))
+  pub reticulations-few : 2 * reticulations N < L .size
+  reticulations-few = accepted-reticulations L network-accepted
 
-  pub reticulations-small : count n (isReticulation N) ≤ 63
-  unfolding networkOf reticulations
+  pub reticulations-small : count (L .size) (isReticulation N) ≤ 63
+  unfolding network reticulations
   reticulations-small = omega (arith, ok .few-nodes, reticulations-few)
 
   pub trials-few : trials N ≤ 2016
@@ -99,11 +131,9 @@ module _ (n m d t l : ℕ) (principal secondary stamp species parents kind : Lis
   pub trials-small : trials N < 1000000
   trials-small = omega (arith, trials-few)
 
-  -- the top of a node's component is a node; a number that is no node stands for itself
-  pub component-small : (v : ℕ) → v ≤ 127 → component N v ≤ 127
-  component-small v u = byNode N sound v
-      (λ k. omega (arith, limits .nodes, component-node N sound v k .high))
-      (λ z _. omega (arith, component-top N sound v (top-root N sound v z)))
+  -- the top of a node's component is a node
+  pub component-small : (v : ℕ) → Node N v → (1 ≤ component N v) × (component N v ≤ L .size)
+  component-small v k = let c = component-node N sound v k in (c .low, omega (arith, size-is, c .high))
 
   -- the parent of any number under a switching is a node, or 0
   pub parent-small : (σ : Switching) (v : ℕ) → parent N σ v ≤ 127
@@ -112,21 +142,21 @@ module _ (n m d t l : ℕ) (principal secondary stamp species parents kind : Lis
       (λ _ e. byNode N sound v (λ k. omega (arith, e, limits .nodes, sound .in-secondary v k)) (λ _ z. omega (arith, e)))
 
   -- a gene's line in the report, under any switching
-  module _ (σ : Switching) (g : ℕ) (lg : 1 ≤ g) (ug : g ≤ m) where
-    place-in : Node N (place N G σ g)
-    place-in = place-node N sound G rooted seated σ g lg (omega (arith, count-is))
+  module _ (σ : Switching) (g : ℕ) (lg : 1 ≤ g) (ug : g ≤ K .count) where
+    in-count : g ≤ G .count
+    in-count = omega (arith, count-at L K)
 
-    pub place-some : 1 ≤ place N G σ g
-    place-some = place-in .low
+    place-in : Node N (place N G σ g)
+    place-in = place-node N sound σ G rooted seated g lg in-count
 
     pub place-small : place N G σ g ≤ 127
     place-small = omega (arith, limits .nodes, place-in .high)
 
     pub event-few : event N G σ g ≤ 3
-    event-few = event-small N G σ g
+    event-few = event-small N sound σ G rooted seated g
 
     pub gene-transfers-small : transfers N G σ g < 1000000
-    gene-transfers-small = omega (arith, limits .nodes, transfers-le N sound G rooted seated σ g)
+    gene-transfers-small = omega (arith, limits .nodes, transfers-le N sound σ G rooted seated g)
 
     pub gene-losses-small : losses N G σ g < 1000000
-    gene-losses-small = omega (arith, limits .nodes, losses-le N sound G rooted seated σ g)
+    gene-losses-small = omega (arith, limits .nodes, losses-le N sound σ G rooted seated g)

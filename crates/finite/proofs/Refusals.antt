@@ -3,11 +3,11 @@
 -- Assumes nothing.
 use Prim.Native.Nat.{ℕ, _≤_}
 use mathlib.Core.Path.{_≡_, refl, sym, _∙_}
-use mathlib.Core.Logic.{_≢_, _↔_}
+use mathlib.Core.Logic.{_≢_, _↔_, inl, inr}
 use mathlib.Core.Bool.{Bool, true, false}
 use mathlib.Core.List.{List, [], _∷_, _++_}
 use native.Mathlib.Omega.{arith}
-use Rattle.finite.specs.Refusals.{Refusal, verdict, First, here, later, NoneApplies, end, passed, Tells, AllTell, no-more, one-more}
+use Rattle.finite.specs.Refusals.{Refusal, verdict, First, NoneApplies, Tells, AllTell, no-more, one-more}
 use Rattle.finite.proofs.Cases.{byBool, byEq, clash}
 
 pub verdict-end : verdict [] ≡ 0
@@ -27,11 +27,6 @@ module _ (r : Refusal) (rs : List Refusal) where
   pub verdict-none : r .number ≢ 0 → verdict (r ∷ rs) ≡ 0 → (r .test ≡ false) × (verdict rs ≡ 0)
   verdict-none d e = byBool (r .test) (λ t. absurd (d (sym (verdict-here t) ∙ e))) (λ t. (t, sym (verdict-later t) ∙ e))
 
--- `byBool` one universe up: a list of refusals holds types
-byTest : {A : Type 1} (b : Bool) → (b ≡ true → A) → (b ≡ false → A) → A
-byTest true y n = y refl
-byTest false y n = n refl
-
 -- a refusal whose test and condition come to the same
 pub tell : (k : ℕ) {t : Bool} {P : Type 0} → 1 ≤ k → (t ≡ true) ↔ P → Tells (record { number = k; test = t; condition = P })
 tell k l h = record { some = λ e. omega arith; yes = h .0; refused = h .1 }
@@ -44,27 +39,36 @@ untold {r} t n = byBool (r .test) (λ y. absurd (n (t .yes y))) (λ f. f)
 
 -- a verdict that is a number is the first refusal that applies; else none does
 pub told-first : (rs : List Refusal) → AllTell rs → (k : ℕ) → k ≢ 0 → verdict rs ≡ k → First rs k
-unfolding verdict
+unfolding verdict First
 told-first [] no-more k d e = absurd (d (sym e))
-told-first (r ∷ rs) (one-more t ts) k d e = byTest (r .test)
-    (λ y. here (t .yes y) (sym (verdict-here r rs y) ∙ e))
-    (λ f. later (denied t f) (told-first rs (ts f) k d (sym (verdict-later r rs f) ∙ e)))
+told-first (r ∷ rs) (one-more t ts) k d e = byBool (r .test)
+    (λ y. inl (t .yes y, sym (verdict-here r rs y) ∙ e))
+    (λ f. inr (denied t f, told-first rs (ts f) k d (sym (verdict-later r rs f) ∙ e)))
 
 pub told-none : (rs : List Refusal) → AllTell rs → verdict rs ≡ 0 → NoneApplies rs
-unfolding verdict
-told-none [] no-more e = end
-told-none (r ∷ rs) (one-more t ts) e = byTest (r .test)
+unfolding verdict NoneApplies
+told-none [] no-more e = tt
+told-none (r ∷ rs) (one-more t ts) e = byBool (r .test)
     (λ y. absurd (t .some (sym (verdict-here r rs y) ∙ e)))
-    (λ f. passed (denied t f) (told-none rs (ts f) (sym (verdict-later r rs f) ∙ e)))
+    (λ f. (denied t f, told-none rs (ts f) (sym (verdict-later r rs f) ∙ e)))
 
 pub first-told : (rs : List Refusal) → AllTell rs → (k : ℕ) → First rs k → verdict rs ≡ k
-first-told (r ∷ rs) (one-more t ts) k (here c e) = verdict-here r rs (t .refused c) ∙ e
-first-told (r ∷ rs) (one-more t ts) k (later n f) = verdict-later r rs (untold t n) ∙ first-told rs (ts (untold t n)) k f
+unfolding First
+first-told [] no-more k f = absurd f
+first-told (r ∷ rs) (one-more t ts) k (inl (c, e)) = verdict-here r rs (t .refused c) ∙ e
+first-told (r ∷ rs) (one-more t ts) k (inr (n, f)) = verdict-later r rs (untold t n) ∙ first-told rs (ts (untold t n)) k f
+
+-- and its number is not 0
+pub first-some : (rs : List Refusal) → AllTell rs → (k : ℕ) → First rs k → k ≢ 0
+unfolding First
+first-some [] no-more k f = absurd f
+first-some (r ∷ rs) (one-more t ts) k (inl (c, e)) = λ z. t .some (e ∙ z)
+first-some (r ∷ rs) (one-more t ts) k (inr (n, f)) = first-some rs (ts (untold t n)) k f
 
 pub none-told : (rs : List Refusal) → AllTell rs → NoneApplies rs → verdict rs ≡ 0
-unfolding verdict
-none-told [] no-more end = refl
-none-told (r ∷ rs) (one-more t ts) (passed n f) = verdict-later r rs (untold t n) ∙ none-told rs (ts (untold t n)) f
+unfolding verdict NoneApplies
+none-told [] no-more n = refl
+none-told (r ∷ rs) (one-more t ts) (n, f) = verdict-later r rs (untold t n) ∙ none-told rs (ts (untold t n)) f
 
 -- the verdict of two lists, one after the other: the first's, or, where none of it applies, the second's
 pub verdict-first : (rs ss : List Refusal) → AllTell rs → (k : ℕ) → k ≢ 0 → verdict rs ≡ k → verdict (rs ++ ss) ≡ k

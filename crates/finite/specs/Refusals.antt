@@ -3,7 +3,7 @@
 -- Assumes nothing.
 use Prim.Native.Nat.{ℕ}
 use mathlib.Core.Path.{_≡_}
-use mathlib.Core.Logic.{_≢_}
+use mathlib.Core.Logic.{_≢_, _⊎_}
 use mathlib.Core.Bool.{Bool, true, false, cond}
 use mathlib.Core.List.{List, [], _∷_}
 
@@ -19,14 +19,14 @@ verdict [] = 0
 verdict (r ∷ rs) = let k = verdict rs in cond (r .test) (r .number) k
 
 -- the refusal with number k is the first that applies: its condition holds, and none before it
-pub data First : List Refusal → ℕ → Type 1 where
-  here : {r : Refusal} {rs : List Refusal} {k : ℕ} → r .condition → r .number ≡ k → First (r ∷ rs) k
-  later : {r : Refusal} {rs : List Refusal} {k : ℕ} → ¬ (r .condition) → First rs k → First (r ∷ rs) k
+unfoldable pub First : List Refusal → ℕ → Type 0
+First [] k = ⊥
+First (r ∷ rs) k = (r .condition × (r .number ≡ k)) ⊎ ((¬ (r .condition)) × First rs k)
 
 -- none applies
-pub data NoneApplies : List Refusal → Type 1 where
-  end : NoneApplies []
-  passed : {r : Refusal} {rs : List Refusal} → ¬ (r .condition) → NoneApplies rs → NoneApplies (r ∷ rs)
+unfoldable pub NoneApplies : List Refusal → Type 0
+NoneApplies [] = Unit {0}
+NoneApplies (r ∷ rs) = (¬ (r .condition)) × NoneApplies rs
 
 -- the test tells the condition, and the number is not 0, which stands for none
 pub record Tells (r : Refusal) : Type 0 where

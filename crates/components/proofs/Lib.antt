@@ -1,0 +1,3 @@
+pub mod Readings
+mod Ways
+mod Filling
