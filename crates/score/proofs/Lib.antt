@@ -1,6 +1,5 @@
+pub mod Answers
 pub mod Refusals
 pub mod Outcomes
+pub mod Reports
 pub mod Promises
-pub mod Lines
-pub mod Families
-pub mod Answers

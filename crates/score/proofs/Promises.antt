@@ -1,124 +1,120 @@
 -- The promise of the call follows from its outcome: the answer says which refusal was the first, the refusals' conditions say when that is, and a
 -- sheet that none applies to is one of which the theorems on the optimum and on histories speak.
 -- Assumes nothing.
-use Prim.Native.Nat.{ℕ}
-use mathlib.Core.Path.{_≡_, sym, ap, _∙_}
-use mathlib.Core.Logic.{_≢_, _↔_}
-use mathlib.Core.Bool.{true, false}
-use mathlib.Core.List.{List}
+use Prim.Native.Nat.{ℕ, _≤_}
+use mathlib.Core.Path.{_≡_, refl, sym, ap, _∙_}
+use mathlib.Core.Logic.{_≢_}
+use mathlib.Core.List.{List, _++_}
 use lib.ListN.{length, getD}
 use native.Mathlib.Omega.{arith}
-use Rattle.finite.proofs.Cases.{byEq}
-use Rattle.finite.proofs.Tests.{is-same, not-same, not-false}
-use Rattle.sheet.specs.Sheets.{nodes, genes, duplicationCost, transferCost, lossCost, lineNo, cell, Limits, refuses4}
+use Rattle.finite.specs.Refusals.{First, NoneApplies}
+use Rattle.finite.proofs.Tests.{not-false}
+use Rattle.finite.proofs.Tables.{within-zero, within-out}
+use Rattle.finite.proofs.Refusals.{told-first, told-none, first-told, first-some, none-told}
+use Rattle.topology.specs.Lines.{NodeLines, network}
+use Rattle.layout.specs.Headers.{costs, Limits}
+use Rattle.sheet.specs.Sheets.{headerIn, lineNo, refuses4}
 use Rattle.sheet.proofs.Limits.{limits-is}
-use Rattle.network.specs.Refusals.{refusal6, refusal7, refusal8, refusal9, refusal10, refusal11}
-use Rattle.network.specs.Verdict.{networkVerdict}
-use Rattle.gene_tree.specs.Refusals.{treeFits, seatsFit, geneVerdict}
-use Rattle.reconciliation.specs.Mapping.{lcaCost}
+use Rattle.network.specs.Accepted.{NoOthers}
+use Rattle.displayed.specs.Model.{lcaCost}
+use Rattle.gene_tree.specs.Genes.{geneTreeOf}
+use Rattle.gene_tree.proofs.Genes.{count-at}
 use Rattle.optimum.proofs.Search.{search-state, search-stops, search-agree}
+use Rattle.histories.specs.Histories.{Least}
+use Rattle.histories.specs.Words.{costOf, cell, words}
+use Rattle.histories.specs.Families.{familyOf}
+use Rattle.histories.proofs.Promise.{overall-least, each-word}
 use Rattle.acceptance.specs.Admitted.{Admitted}
 use Rattle.acceptance.proofs.Mapped.{sound, optimal}
-use Rattle.acceptance.proofs.Least.{overall-least}
-use Rattle.acceptance.proofs.Promise.{each-word}
+use Rattle.acceptance.proofs.Whole.{whole-accepted}
 use Rattle.score.specs.declared.Answer.{Answer}
 use Rattle.score.specs.declared.Answer.the-variants.{Report, Refused}
-use Rattle.score.specs.Families.{Tables, tablesOf, networkIn, geneTreeIn, costsIn, familyIn, reported}
-use Rattle.score.specs.Refusals.{curators, tests, refusal}
-use Rattle.score.specs.Outcome.{reportIn, answerBy, Outcome, Reported, Promise}
-use Rattle.score.proofs.Refusals.{none-found, refusal-iff, accepted-iff}
-use Rattle.score.proofs.Outcomes.{stamps-small}
+use Rattle.score.specs.Families.{Contents, nodeLines, geneLines, contentsOf, networkIn, geneTreeIn, familyIn, reported}
+use Rattle.score.specs.Refusals.{refusals, refusal}
+use Rattle.score.specs.Outcome.{reportIn, Outcome, Reported, Promise}
+use Rattle.score.proofs.Answers.{answer-refused, refused-answer, answer-report, report-answer}
+use Rattle.score.proofs.Refusals.{all-tells, text-passes, curators-pass, none-passes}
 
-pub apart : {A : Type 0} {b k : ℕ} → Report b ≡ Refused k → A
-apart e = let z : _≡_ {A = ℕ} 0 1 = cc in absurd (omega arith)
-
-pub same-number : {j k : ℕ} → Refused j ≡ Refused k → j ≡ k
-same-number e = cc
-
--- which refusal the answer tells
-answer-refused : (k j : ℕ) (X : Tables) → k ≢ 0 → (answerBy j X ≡ Refused k) ↔ (j ≡ k)
-unfolding answerBy
-answer-refused k j X d = byEq j 0
-    (λ e. ((λ q. apart (rw (is-same e) at q)), λ q. absurd (d (sym q ∙ e))))
-    (λ z. ((λ q. same-number (rw (not-same z) at q)), λ q. rw (not-same z) (ap Refused q)))
-
-answer-report : (j : ℕ) (X : Tables) (b : ℕ) → answerBy j X ≡ Report b → j ≡ 0
-unfolding answerBy
-answer-report j X b q = byEq j 0 (λ e. e) (λ z. apart (sym (rw (not-same z) at q)))
-
-report-answer : (j : ℕ) (X : Tables) → j ≡ 0 → answerBy j X ≡ Report (length (reportIn X))
-unfolding answerBy
-report-answer j X e = rw (is-same e)
+-- a number that is no node has no parents
+pub no-others : (s : List ℕ) → NoOthers (contentsOf s .nodes)
+unfolding contentsOf nodeLines
+no-others s = record {
+  zero-principal = within-zero _ _;
+  zero-secondary = within-zero _ _;
+  out-principal = λ v l. within-out _ _ v l;
+  out-secondary = λ v l. within-out _ _ v l;
+}
 
 -- a sheet that no refusal applies to
 module _ (s : List ℕ) (b w : ℕ) (e : refusal s b w ≡ 0) where
-  abbrev X : Tables
-  X = tablesOf s
+  abbrev X : Contents
+  X = contentsOf s
 
-  fails : (i : ℕ) → getD (tests s b w) i false ≡ false
-  unfolding refusal
-  fails = none-found (tests s b w) 1 (omega arith) e
+  within : Limits (headerIn s)
+  unfolding refuses4
+  within = limits-is _ (not-false _ (text-passes s b w e .1))
 
-  within : Limits (lineNo s 0 .line)
-  unfolding tests refuses4
-  within = limits-is _ (not-false _ (fails 3))
+  admitted : Admitted (X .nodes) (X .genes) (X .costs)
+  unfolding contentsOf nodeLines geneLines costs
+  admitted =
+      let p = none-passes (contentsOf s) (no-others s) (curators-pass s b w e) in
+      record {
+        few-nodes = within .few-nodes;
+        some-gene = within .some-gene;
+        few-genes = within .few-genes;
+        duplication = within .duplication;
+        transfer = within .transfer;
+        loss = within .loss;
+        others = no-others s;
+        network = p .network;
+        component = p .component;
+        genes = p .genes;
+      }
 
-  network-passes : networkVerdict (X .nodes) (X .principal) (X .secondary) (X .stamp) (X .species) ≡ 0
-  unfolding networkVerdict tests curators networkIn
-  network-passes =
-      let r₆ : refusal6 (X .nodes) (X .principal) (X .secondary) ≡ false = fails 5 in
-      let r₇ : refusal7 (X .nodes) (X .principal) (X .secondary) (X .stamp) ≡ false = fails 6 in
-      let r₈ : refusal8 (X .nodes) (X .principal) (X .secondary) ≡ false = fails 7 in
-      let r₉ : refusal9 (X .nodes) (X .principal) (X .secondary) (X .species) ≡ false = fails 8 in
-      let r₁₀ : refusal10 (X .nodes) (X .principal) (X .secondary) ≡ false = fails 9 in
-      let r₁₁ : refusal11 (networkIn X) ≡ false = fails 10 in
-      rw (r₆, r₇, r₈, r₉, r₁₀, r₁₁)
+  each-least : (g v : ℕ) → 1 ≤ g → g ≤ X .genes .count → 1 ≤ v → v ≤ X .nodes .size → (rest : List ℕ) → Least (familyIn X) g v (costOf (getD (words (familyIn X) ++ rest) (cell (X .nodes .size) g v) 0))
+  unfolding familyIn familyOf
+  each-least g v lg ug lv uv rest =
+      each-word (X .nodes) (X .genes) (geneTreeOf (X .nodes) (X .genes)) (X .costs) (whole-accepted (X .nodes) (X .genes) (X .costs) admitted) g v lg (omega (arith, count-at (X .nodes) (X .genes))) lv uv rest
 
-  genes-pass : geneVerdict (X .nodes) (X .genes) (X .parent) (X .kind) (X .species) ≡ 0
-  unfolding geneVerdict tests curators
-  genes-pass =
-      let t₁₂ : treeFits (X .genes) (X .parent) ≡ true = not-false _ (fails 11) in
-      let t₁₃ : seatsFit (X .nodes) (X .genes) (X .parent) (X .kind) (X .species) ≡ true = not-false _ (fails 12) in
-      rw (t₁₂, t₁₃)
-
-  admitted : Admitted (X .nodes) (X .genes) (X .duplication) (X .transfer) (X .loss) (X .principal) (X .secondary) (X .stamp) (X .species) (X .parent) (X .kind)
-  unfolding tablesOf nodes genes duplicationCost transferCost lossCost cell
-  admitted = record {
-    some-node = within .some-node;
-    few-nodes = within .few-nodes;
-    some-gene = within .some-gene;
-    few-genes = within .few-genes;
-    duplication-low = within .duplication;
-    transfer-low = within .transfer;
-    loss-low = within .loss;
-    stamp-low = stamps-small s (within .few-nodes);
-    network = network-passes;
-    gene-tree = genes-pass;
-  }
-
-  pub is-reported : Reported (tablesOf s)
-  unfolding networkIn geneTreeIn costsIn familyIn reported
+  pub is-reported : Reported (contentsOf s)
+  unfolding networkIn geneTreeIn familyIn reported
   is-reported = record {
-    optimal = optimal (X .nodes) (X .genes) (X .duplication) (X .transfer) (X .loss) (X .principal) (X .secondary) (X .stamp) (X .species) (X .parent) (X .kind) admitted;
-    steps = λ t l. search-state (networkIn X) (geneTreeIn X) (costsIn X) t (omega arith);
-    stops = search-stops (networkIn X) (geneTreeIn X) (costsIn X);
-    last = λ r d. sym (search-agree (networkIn X) (sound (X .nodes) (X .genes) (X .duplication) (X .transfer) (X .loss) (X .principal) (X .secondary) (X .stamp) (X .species) (X .parent) (X .kind)
-        admitted) (lcaCost (networkIn X) (geneTreeIn X) (costsIn X)) r d);
-    each = each-word (X .nodes) (X .genes) (X .duplication) (X .transfer) (X .loss) (X .principal) (X .secondary) (X .stamp) (X .species) (X .parent) (X .kind) admitted;
-    whole = overall-least (X .nodes) (X .genes) (X .duplication) (X .transfer) (X .loss) (X .principal) (X .secondary) (X .stamp) (X .species) (X .parent) (X .kind) admitted;
+    optimal = optimal (X .nodes) (X .genes) (X .costs) admitted;
+    steps = λ t l. search-state (networkIn X) (geneTreeIn X) (X .costs) t (omega arith);
+    stops = search-stops (networkIn X) (geneTreeIn X) (X .costs);
+    last = λ r d. sym (search-agree (networkIn X) (sound (X .nodes) (X .genes) (X .costs) admitted) (lcaCost (networkIn X) (geneTreeIn X) (X .costs)) r d);
+    each = each-least;
+    whole = overall-least (X .nodes) (X .genes) (geneTreeIn X) (X .costs) (whole-accepted (X .nodes) (X .genes) (X .costs) admitted);
   }
 
-pub promise : (s d e u t : List ℕ) (r : Answer) → Outcome (refusal s (length d) (length u)) (tablesOf s) d e u t r
-    → Promise s d e u t r
+-- the verdict and the conditions
+module _ (s : List ℕ) (b w : ℕ) where
+  first-of : (k : ℕ) → refusal s b w ≡ k → k ≢ 0 → First (refusals s b w) k
+  unfolding refusal
+  first-of k e d = told-first (refusals s b w) (all-tells s b w (no-others s)) k d e
+
+  of-first : (k : ℕ) → First (refusals s b w) k → refusal s b w ≡ k
+  unfolding refusal
+  of-first k f = first-told (refusals s b w) (all-tells s b w (no-others s)) k f
+
+  none-of : refusal s b w ≡ 0 → NoneApplies (refusals s b w)
+  unfolding refusal
+  none-of e = told-none (refusals s b w) (all-tells s b w (no-others s)) e
+
+  of-none : NoneApplies (refusals s b w) → refusal s b w ≡ 0
+  unfolding refusal
+  of-none n = none-told (refusals s b w) (all-tells s b w (no-others s)) n
+
+pub promise : (s d e u t : List ℕ) (r : Answer) → Outcome (refusal s (length d) (length u)) (contentsOf s) d e u t r → Promise s d e u t r
 promise s d e u t r o =
+    let b : ℕ = length d in
+    let w : ℕ = length u in
+    let T = all-tells s b w (no-others s) in
     record {
       outcome = o;
-      refused = λ k z. let i = answer-refused k (refusal s (length d) (length u)) (tablesOf s) z in
-          let j = refusal-iff s (length d) (length u) k z in
-          ((λ a. j .0 (i .0 (sym (o .answer) ∙ a))), λ h. o .answer ∙ i .1 (j .1 h));
-      scored = (
-        (λ a. accepted-iff s (length d) (length u) .0 (answer-report (refusal s (length d) (length u)) (tablesOf s) _ (sym (o .answer) ∙ a))),
-        λ h. o .answer ∙ report-answer (refusal s (length d) (length u)) (tablesOf s) (accepted-iff s (length d) (length u) .1 h),
-      );
-      reported = λ b a. is-reported s (length d) (length u) (answer-report (refusal s (length d) (length u)) (tablesOf s) b (sym (o .answer) ∙ a));
+      refused = λ k a. let n = answer-refused k (refusal s b w) (contentsOf s) (sym (o .answer) ∙ a) in first-of s b w k (n .0) (λ z. n .1 (n .0 ∙ z));
+      refuses = λ k f. o .answer ∙ refused-answer k (refusal s b w) (contentsOf s) (first-some (refusals s b w) T k f) (of-first s b w k f);
+      scored = λ x a. none-of s b w (answer-report (refusal s b w) (contentsOf s) x (sym (o .answer) ∙ a) .0);
+      scores = λ n. o .answer ∙ report-answer (refusal s b w) (contentsOf s) (of-none s b w n);
+      reported = λ x a. is-reported s b w (answer-report (refusal s b w) (contentsOf s) x (sym (o .answer) ∙ a) .0);
     }

@@ -1,63 +1,62 @@
--- What a sheet says (01, "The sheet"): its numbers as tables, and the network, the gene tree, the costs and the gene family that they describe.
+-- What a sheet says (01, "The sheet"): its lines and costs, and the network, the gene tree and the gene family that they describe.
 -- Assumes nothing.
 use mathlib.Core.List.{List}
-use Prim.Native.Nat.{ℕ}
+use Prim.Native.Nat.{ℕ, _+_}
+use Rattle.finite.specs.Tables.{within}
 use Rattle.topology.specs.Networks.{Network}
 use Rattle.topology.specs.Switchings.{Switching}
-use Rattle.topology.specs.Tables.{networkOf}
+use Rattle.topology.specs.Lines.{NodeLines, GeneLines, network}
 use Rattle.reconciliation.specs.GeneTrees.{GeneTree}
-use Rattle.reconciliation.specs.Mapping.{Costs}
-use Rattle.gene_tree.specs.Genes.{geneTreeOf, leftTable, rightTable}
+use Rattle.reconciliation.specs.Costs.{Costs}
+use Rattle.gene_tree.specs.Genes.{geneTreeOf}
 use Rattle.optimum.specs.Optimum.{chosen}
 use Rattle.histories.specs.Histories.{Family}
 use Rattle.histories.specs.Families.{familyOf}
-use Rattle.sheet.specs.Sheets.{nodes, genes, duplicationCost, transferCost, lossCost, nodeTable, geneTable}
+use Rattle.layout.specs.Headers.{costs}
+use Rattle.sheet.specs.Sheets.{headerIn, nodes, genes, cell}
 
--- n, m and the three costs; of each node its parents, stamp and species; of each gene its parent and species
-pub record Tables : Type 0 where
-  pub nodes : ℕ
-  pub genes : ℕ
-  pub duplication : ℕ
-  pub transfer : ℕ
-  pub loss : ℕ
-  pub principal : List ℕ
-  pub secondary : List ℕ
-  pub stamp : List ℕ
-  pub species : List ℕ
-  pub parent : List ℕ
-  pub kind : List ℕ
-
--- "n network lines: node number .., principal parent, secondary parent, stamp, species"; "m gene lines: gene number .., parent, species, 0, 0"
-unfoldable pub tablesOf : List ℕ → Tables
-tablesOf s = record {
-  nodes = nodes s;
-  genes = genes s;
-  duplication = duplicationCost s;
-  transfer = transferCost s;
-  loss = lossCost s;
-  principal = nodeTable s 1;
-  secondary = nodeTable s 2;
-  stamp = nodeTable s 3;
-  species = nodeTable s 4;
-  parent = geneTable s 1;
-  kind = geneTable s 2;
+-- "n network lines: node number (1 to n, in order), principal parent, secondary parent, stamp, species": line v of the sheet is about node v
+unfoldable pub nodeLines : List ℕ → NodeLines
+nodeLines s = record {
+  size = nodes s;
+  principal = within (nodes s) (λ v. cell s v 1);
+  secondary = within (nodes s) (λ v. cell s v 2);
+  stamp = within (nodes s) (λ v. cell s v 3);
+  species = within (nodes s) (λ v. cell s v 4);
 }
 
-module _ (X : Tables) where
+-- "m gene lines: gene number (1 to m, in order), parent, species, 0, 0": line n + g is about gene g
+unfoldable pub geneLines : List ℕ → GeneLines
+geneLines s = record {
+  count = genes s;
+  parent = within (genes s) (λ g. cell s (nodes s + g) 1);
+  species = within (genes s) (λ g. cell s (nodes s + g) 2);
+}
+
+-- the lines and the costs of a family
+pub record Contents : Type 0 where
+  pub nodes : NodeLines
+  pub genes : GeneLines
+  pub costs : Costs
+
+unfoldable pub contentsOf : List ℕ → Contents
+contentsOf s = record {
+  nodes = nodeLines s;
+  genes = geneLines s;
+  costs = costs (headerIn s);
+}
+
+module _ (X : Contents) where
   unfoldable pub networkIn : Network
-  networkIn = networkOf (X .nodes) (X .principal) (X .secondary) (X .stamp)
+  networkIn = network (X .nodes)
 
   unfoldable pub geneTreeIn : GeneTree
-  geneTreeIn = geneTreeOf (X .nodes) (X .genes) (X .parent) (X .kind) (X .species)
-
-  unfoldable pub costsIn : Costs
-  costsIn = record { duplication = X .duplication; transfer = X .transfer; loss = X .loss }
+  geneTreeIn = geneTreeOf (X .nodes) (X .genes)
 
   -- the family as the whole-network cost takes it
   unfoldable pub familyIn : Family
-  familyIn = familyOf (X .nodes) (X .principal) (X .secondary) (X .species) (X .genes) (leftTable (X .genes) (X .parent)) (rightTable (X .genes) (X .parent)) (X .kind)
-      (X .duplication) (X .transfer) (X .loss)
+  familyIn = familyOf (X .nodes) (X .genes) (geneTreeOf (X .nodes) (X .genes)) (X .costs)
 
   -- the setting reported
   unfoldable pub reported : Switching
-  reported = chosen networkIn geneTreeIn costsIn
+  reported = chosen networkIn geneTreeIn (X .costs)

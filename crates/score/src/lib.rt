@@ -1,22 +1,28 @@
-// The call that scores a family sheet: the refusals in number order, then the report and the table of the whole network.
-use mapping::UnitCosts;
+// The call that scores a family sheet: the refusals in the order of checking, then the report and the table of the whole network.
+use layout::genes::Genes;
+use layout::lines::Lines;
+use layout::parts;
+use layout::parts::Parts;
+use layout::Header;
 use report::Totals;
+use search::Found;
 use sheet::Headed;
-use sheet::Header;
 ghost use mathlib.Core.Path.{_≡_};
-ghost use Prim.Native.Nat.{_+_, _≤_, _<_};
-ghost use lib.ListN.{length};
 ghost use mathlib.Core.Bool.{not};
+ghost use Prim.Native.Nat.{_≤_};
+ghost use lib.ListN.{length};
 ghost use Rattle.finite.specs.Tests.{same, tally};
 ghost use Rattle.finite.specs.Range.{count};
-ghost use Rattle.columns.specs.Lines.{written};
-ghost use Rattle.report.specs.Reports.{hasSecondary, reportLength};
-ghost use Rattle.network.specs.Tables.{ComponentTables};
-ghost use Rattle.mapping.specs.Evaluated.{Tabled};
-ghost use Rattle.score.specs.Families.{tablesOf};
-ghost use Rattle.score.specs.Refusals.{curators, firstFrom, refusal};
-ghost use Rattle.score.specs.Outcome.{Outcome, Promise};
-ghost use Rattle.score.specs.Stages.{tablesBy, cellTables, Lined, Sized, Passed, Worked, Written, Mapped, mappedReport};
+ghost use Rattle.finite.specs.Refusals.{verdict};
+ghost use Rattle.layout.specs.Lines.{nodesIn};
+ghost use Rattle.layout.specs.Parts.{reticulationCount, Parted};
+ghost use Rattle.topology.specs.Networks.{isReticulation};
+ghost use Rattle.topology.specs.Lines.{network};
+ghost use Rattle.network.specs.Refusals.{networkRefusals};
+
+
+ghost use Rattle.score.specs.Outcome.{Promise};
+ghost use Rattle.score.specs.Stages.{contentsBy, Lined, Sized, Curated, Passed, Worked, totalsBy, Written, OutcomeBy, OutcomeOf};
 
 // The least scratch, in words, and the least result, in bytes.
 const LEAST_WORDS: usize = 16129;
@@ -30,7 +36,7 @@ pub enum Answer {
 }
 
 // 1 for a number that is not 0.
-fn is_some(x: u32) -> u32
+fn is_some(x: usize) -> u32
     ensures { λ r. ⌜ (r ≡ tally (not (same x 0))) × (r ≤ 1) ⌝ }
 {
     if x == 0 {
@@ -39,330 +45,155 @@ fn is_some(x: u32) -> u32
     1
 }
 
-// How many of the entries 1 to n are not 0: nodes with a secondary parent, or components with a reticulation.
-fn count_some(n: usize, xs: &[u32; 128]) -> u32
+// How many nodes are reticulations.
+fn reticulations(n: usize, lines: &Lines) -> u32
     requires { ⌜ n ≤ 127 ⌝ }
-    ensures { λ r. ⌜ (r ≡ count n (hasSecondary (now (xs .entry)))) × (r ≤ n) ⌝ }
+    ensures { λ r. ⌜ r ≡ count n (isReticulation (network (nodesIn n (now (lines .entry))))) ⌝ }
 {
     let mut r: u32 = 0;
     let mut v: usize = 0;
     while v < n {
         let w = v + 1;
-        r += is_some(xs[w]);
+        r += is_some(layout::lines::secondary(lines, w));
         v = w;
     }
     r
 }
 
-// The report on the genes of a switched network.
-fn write_mapped(
-    totals: Totals,
-    n: usize,
-    up: &[u32; 128],
-    on: &[u32; 128],
-    height: &[u32; 128],
-    m: usize,
-    left: &[u32; 128],
-    right: &[u32; 128],
-    leaf: &[u32; 128],
-    mother: &[u32; 128],
-    secondary: &[u32; 128],
-    top: &[u32; 128],
-    members: &[u32; 128],
-    place: &[u32; 128],
-    event: &[u32; 128],
-    moved: &[u32; 128],
-    lost: &[u32; 128],
-    result: &mut [u8],
-) -> usize
-    requires { ⌜ Mapped totals n (now up) (now on) (now height) m (now left) (now right) (now leaf) (now mother) (now secondary) (now top) (now members) (length (now result)) ⌝ }
-    requires { ⌜ Tabled n (now up) (now on) (now height) m (now left) (now right) (now leaf) (now mother) (now place) (now event) (now moved) (now lost) ⌝ }
-    ensures { λ r. ⌜ (now (result .exit) ≡ written (now (result .entry)) (mappedReport totals n (now (up .entry)) (now (on .entry)) (now (height .entry)) m (now (left .entry)) (now (right .entry)) (now (leaf .entry)) (now (mother .entry)) (now (secondary .entry)) (now (top .entry)) (now (members .entry)))) × (r ≡ reportLength n m (hasSecondary (now (secondary .entry)))) ⌝ }
+// How many components have a reticulation.
+fn components_with_any(n: usize, parts: &Parts) -> u32
+    requires { ⌜ n ≤ 127 ⌝ }
+    ensures { λ r. ⌜ r ≡ count n (λ c. not (same (reticulationCount (now (parts .entry)) c) 0)) ⌝ }
 {
-    report::write_report(
-        result,
-        totals,
-        n,
-        m,
-        secondary,
-        up,
-        on,
-        top,
-        members,
-        place,
-        event,
-        moved,
-        lost,
-    )
+    let mut r: u32 = 0;
+    let mut v: usize = 0;
+    while v < n {
+        let w = v + 1;
+        r += is_some(parts::reticulation_count(parts, w) as usize);
+        v = w;
+    }
+    r
 }
 
-// Searches, fills the table and writes the report, by the tables that are worked out once for the family; returns the bytes of the report.
-fn write_worked(
-    h: Header,
-    principal: &[u32; 128],
-    secondary: &[u32; 128],
-    stamp: &[u32; 128],
-    species: &[u32; 128],
-    parent: &[u32; 128],
-    kind: &[u32; 128],
-    height: &[u32; 128],
-    top: &[u32; 128],
-    members: &[u32; 128],
-    index: &[u32; 128],
-    left: &[u32; 128],
-    right: &[u32; 128],
-    leaf: &[u32; 128],
-    result: &mut [u8],
-    scratch: &mut [u32],
-) -> usize
-    requires { ⌜ Sized (tablesBy h (now principal) (now secondary) (now stamp) (now species) (now parent) (now kind)) (length (now result)) (length (now scratch)) ⌝ }
-    requires { ⌜ Passed (tablesBy h (now principal) (now secondary) (now stamp) (now species) (now parent) (now kind)) ⌝ }
-    requires { ⌜ Worked (tablesBy h (now principal) (now secondary) (now stamp) (now species) (now parent) (now kind)) (now height) (now top) (now members) (now index) (now left) (now right) (now leaf) ⌝ }
-    ensures { λ r. ⌜ Written (tablesBy h (now (principal .entry)) (now (secondary .entry)) (now (stamp .entry)) (now (species .entry)) (now (parent .entry)) (now (kind .entry))) (now (result .entry)) (now (result .exit)) (now (scratch .entry)) (now (scratch .exit)) r ⌝ }
+// The numbers of the report's first two lines.
+fn totals(h: Header, lines: &Lines, parts: &Parts, found: Found, whole: u32) -> Totals
+    requires { ⌜ (h .nodes ≤ 127) × (h .genes ≤ 127) ⌝ }
+    ensures { λ r. ⌜ r ≡ totalsBy h (now (lines .entry)) (now (parts .entry)) found whole ⌝ }
 {
-    let n = h.nodes;
-    let m = h.genes;
-    let costs = UnitCosts {
-        duplication: h.duplication,
-        transfer: h.transfer,
-        loss: h.loss,
-    };
-    let mut place = [0u32; 128];
-    let mut event = [0u32; 128];
-    let mut moved = [0u32; 128];
-    let mut lost = [0u32; 128];
-    let found = search::run(
-        n,
-        principal,
-        secondary,
-        stamp,
-        height,
-        top,
-        members,
-        index,
-        m,
-        left,
-        right,
-        leaf,
-        parent,
-        costs,
-        &mut place,
-        &mut event,
-        &mut moved,
-        &mut lost,
-    );
-    let sizes = whole_network::Header {
-        nodes: n,
-        genes: m,
-        duplication: h.duplication,
-        transfer: h.transfer,
-        loss: h.loss,
-    };
-    let whole = whole_network::fill(
-        sizes,
-        principal,
-        secondary,
-        stamp,
-        species,
-        left,
-        right,
-        kind,
-        scratch,
-    );
-    let totals = Totals {
-        cost: found.score.cost,
-        duplications: found.score.duplications,
-        transfers: found.score.transfers,
-        losses: found.score.losses,
+    let score = found.score;
+    Totals {
+        cost: score.cost,
+        duplications: score.duplications,
+        transfers: score.transfers,
+        losses: score.losses,
         trials: found.trials,
         whole: whole,
-        nodes: n as u32,
-        genes: m as u32,
-        reticulations: count_some(n, secondary),
-        components: count_some(n, members),
-    };
-    let on = found.on;
-    let up = found.up;
-    write_mapped(
-        totals,
-        n,
-        &up,
-        &on,
-        height,
-        m,
-        left,
-        right,
-        leaf,
-        parent,
-        secondary,
-        top,
-        members,
-        &place,
-        &event,
-        &moved,
-        &lost,
-        result,
-    )
+        nodes: h.nodes as u32,
+        genes: h.genes as u32,
+        reticulations: reticulations(h.nodes, lines),
+        components: components_with_any(h.nodes, parts),
+    }
 }
 
-// Writes the report and the table of a family that no refusal applies to, and returns the bytes of the report. The verdict on the network has found the
-// tops and members of its components.
-fn write_family(
+// Searches, fills the table of the whole network and writes the report; returns the bytes of the report.
+fn write_worked(
     h: Header,
-    principal: &[u32; 128],
-    secondary: &[u32; 128],
-    stamp: &[u32; 128],
-    species: &[u32; 128],
-    parent: &[u32; 128],
-    kind: &[u32; 128],
-    top: &[u32; 128],
-    members: &[u32; 128],
+    lines: &Lines,
+    parts: &Parts,
+    genes: &Genes,
     result: &mut [u8],
     scratch: &mut [u32],
 ) -> usize
-    requires { ⌜ Sized (tablesBy h (now principal) (now secondary) (now stamp) (now species) (now parent) (now kind)) (length (now result)) (length (now scratch)) ⌝ }
-    requires { ⌜ Passed (tablesBy h (now principal) (now secondary) (now stamp) (now species) (now parent) (now kind)) ⌝ }
-    requires { ⌜ ComponentTables (h .nodes) (now principal) (now secondary) (now stamp) (now top) (now members) ⌝ }
-    ensures { λ r. ⌜ Written (tablesBy h (now (principal .entry)) (now (secondary .entry)) (now (stamp .entry)) (now (species .entry)) (now (parent .entry)) (now (kind .entry))) (now (result .entry)) (now (result .exit)) (now (scratch .entry)) (now (scratch .exit)) r ⌝ }
+    requires { ⌜ Worked h (now lines) (now parts) (now genes) (length (now result)) (length (now scratch)) ⌝ }
+    ensures { λ r. ⌜ Written (contentsBy h (now (lines .entry))) (now (result .entry)) (now (result .exit)) (now (scratch .entry)) (now (scratch .exit)) r ⌝ }
 {
-    let n = h.nodes;
-    let m = h.genes;
-    let height = network::climbs::heights(n, secondary, stamp);
-    let mut index = [0u32; 128];
-    network::components::indices(n, secondary, top, &mut index);
-    let mut left = [0u32; 128];
-    gene_tree::left_children(m, parent, &mut left);
-    let mut right = [0u32; 128];
-    gene_tree::right_children(m, parent, &left, &mut right);
-    let mut leaf = [0u32; 128];
-    gene_tree::leaf_nodes(m, kind, n, species, &mut leaf);
-    write_worked(
-        h,
-        principal,
-        secondary,
-        stamp,
-        species,
-        parent,
-        kind,
-        &height,
-        top,
-        members,
-        &index,
-        &left,
-        &right,
-        &leaf,
-        result,
-        scratch,
-    )
+    let mut choices = [0u32; 512];
+    let mut tree = [0u32; 512];
+    let mut results = [0u32; 512];
+    let found = search::run(h, lines, parts, genes, &mut choices, &mut tree, &mut results);
+    let whole = whole_network::fill(h, lines, genes, scratch);
+    let t = totals(h, lines, parts, found, whole);
+    report::write_report(result, t, h.nodes, h.genes, lines, &tree, parts, &results)
+}
+
+// Writes the report and the table of a family that no refusal applies to, and returns the bytes of the report.
+fn write_family(
+    h: Header,
+    lines: &Lines,
+    parts: &Parts,
+    result: &mut [u8],
+    scratch: &mut [u32],
+) -> usize
+    requires { ⌜ Sized h (now lines) (length (now result)) (length (now scratch)) × Passed (contentsBy h (now lines)) × Parted (network (nodesIn (h .nodes) (now lines))) (now parts) ⌝ }
+    ensures { λ r. ⌜ Written (contentsBy h (now (lines .entry))) (now (result .entry)) (now (result .exit)) (now (scratch .entry)) (now (scratch .exit)) r ⌝ }
+{
+    let mut genes = [0u32; 512];
+    gene_tree::fill(h.nodes, h.genes, lines, &mut genes);
+    write_worked(h, lines, parts, &genes, result, scratch)
+}
+
+// The verdict on the gene tree, and the report of a family that passes it.
+fn score_genes(
+    h: Header,
+    lines: &Lines,
+    parts: &Parts,
+    result: &mut [u8],
+    scratch: &mut [u32],
+) -> Answer
+    requires { ⌜ Sized h (now lines) (length (now result)) (length (now scratch)) × Curated h (now lines) × Parted (network (nodesIn (h .nodes) (now lines))) (now parts) ⌝ }
+    ensures { λ r. ⌜ OutcomeBy h (now (lines .entry)) (now (result .entry)) (now (result .exit)) (now (scratch .entry)) (now (scratch .exit)) r ⌝ }
+{
+    let k = gene_tree::verdict(h.nodes, h.genes, lines);
+    if k != 0 {
+        return Answer::Refused(k);
+    }
+    Answer::Report(write_family(h, lines, parts, result, scratch))
+}
+
+// The components of a network that passes 6 to 10, and 11.
+fn score_components(h: Header, lines: &Lines, result: &mut [u8], scratch: &mut [u32]) -> Answer
+    requires { ⌜ Sized h (now lines) (length (now result)) (length (now scratch)) × (verdict (networkRefusals (nodesIn (h .nodes) (now lines))) ≡ 0) ⌝ }
+    ensures { λ r. ⌜ OutcomeBy h (now (lines .entry)) (now (result .entry)) (now (result .exit)) (now (scratch .entry)) (now (scratch .exit)) r ⌝ }
+{
+    let mut parts = [0u32; 512];
+    components::fill(h.nodes, lines, &mut parts);
+    if components::crowded(h.nodes, lines, &parts) {
+        return Answer::Refused(11);
+    }
+    score_genes(h, lines, &parts, result, scratch)
 }
 
 // The curators' verdicts, and the report of a family that passes them.
-fn score_tables(
-    h: Header,
-    principal: &[u32; 128],
-    secondary: &[u32; 128],
-    stamp: &[u32; 128],
-    species: &[u32; 128],
-    parent: &[u32; 128],
-    kind: &[u32; 128],
-    result: &mut [u8],
-    scratch: &mut [u32],
-) -> Answer
-    requires { ⌜ Sized (tablesBy h (now principal) (now secondary) (now stamp) (now species) (now parent) (now kind)) (length (now result)) (length (now scratch)) ⌝ }
-    ensures { λ r. ⌜ Outcome (firstFrom 6 (curators (tablesBy h (now (principal .entry)) (now (secondary .entry)) (now (stamp .entry)) (now (species .entry)) (now (parent .entry)) (now (kind .entry))))) (tablesBy h (now (principal .entry)) (now (secondary .entry)) (now (stamp .entry)) (now (species .entry)) (now (parent .entry)) (now (kind .entry))) (now (result .entry)) (now (result .exit)) (now (scratch .entry)) (now (scratch .exit)) r ⌝ }
+fn score_network(h: Header, lines: &Lines, result: &mut [u8], scratch: &mut [u32]) -> Answer
+    requires { ⌜ Sized h (now lines) (length (now result)) (length (now scratch)) ⌝ }
+    ensures { λ r. ⌜ OutcomeBy h (now (lines .entry)) (now (result .entry)) (now (result .exit)) (now (scratch .entry)) (now (scratch .exit)) r ⌝ }
 {
-    let n = h.nodes;
-    let m = h.genes;
-    let mut top = [0u32; 128];
-    let mut members = [0u32; 128];
-    let v = network::verdict(
-        n,
-        principal,
-        secondary,
-        stamp,
-        species,
-        &mut top,
-        &mut members,
-    );
-    if v != 0 {
-        return Answer::Refused(v);
+    let k = network::verdict(h.nodes, lines);
+    if k != 0 {
+        return Answer::Refused(k);
     }
-    let w = gene_tree::verdict(m, parent, kind, n, species);
-    if w != 0 {
-        return Answer::Refused(w);
-    }
-    let bytes = write_family(
-        h,
-        principal,
-        secondary,
-        stamp,
-        species,
-        parent,
-        kind,
-        &top,
-        &members,
-        result,
-        scratch,
-    );
-    Answer::Report(bytes)
+    score_components(h, lines, result, scratch)
 }
 
-// The later lines, and the tables that they give.
-fn score_cells(
-    h: Header,
-    cells: &[u32; sheet::CELLS],
-    result: &mut [u8],
-    scratch: &mut [u32],
-) -> Answer
-    requires { ⌜ Sized (cellTables h (now cells)) (length (now result)) (length (now scratch)) ⌝ }
-    ensures { λ r. ⌜ Outcome (firstFrom 6 (curators (cellTables h (now (cells .entry))))) (cellTables h (now (cells .entry))) (now (result .entry)) (now (result .exit)) (now (scratch .entry)) (now (scratch .exit)) r ⌝ }
-{
-    let n = h.nodes;
-    let m = h.genes;
-    let mut principal = [0u32; 128];
-    sheet::table(cells, 0, n, 1, &mut principal);
-    let mut secondary = [0u32; 128];
-    sheet::table(cells, 0, n, 2, &mut secondary);
-    let mut stamp = [0u32; 128];
-    sheet::table(cells, 0, n, 3, &mut stamp);
-    let mut species = [0u32; 128];
-    sheet::table(cells, 0, n, 4, &mut species);
-    let mut parent = [0u32; 128];
-    sheet::table(cells, n, m, 1, &mut parent);
-    let mut kind = [0u32; 128];
-    sheet::table(cells, n, m, 2, &mut kind);
-    score_tables(
-        h,
-        &principal,
-        &secondary,
-        &stamp,
-        &species,
-        &parent,
-        &kind,
-        result,
-        scratch,
-    )
-}
-
-// A sheet whose header is within the limits.
+// A sheet whose header is within the limits: its other lines.
 fn score_lines(sheet: &[u8], h: Header, result: &mut [u8], scratch: &mut [u32]) -> Answer
     requires { ⌜ Lined (now sheet) h (length (now result)) (length (now scratch)) ⌝ }
-    ensures { λ r. ⌜ Outcome (refusal (now (sheet .entry)) (length (now (result .entry))) (length (now (scratch .entry)))) (tablesOf (now (sheet .entry))) (now (result .entry)) (now (result .exit)) (now (scratch .entry)) (now (scratch .exit)) r ⌝ }
+    ensures { λ r. ⌜ OutcomeOf (now (sheet .entry)) (now (result .entry)) (now (result .exit)) (now (scratch .entry)) (now (scratch .exit)) r ⌝ }
 {
     let n = h.nodes;
     let m = h.genes;
     if !sheet::is_whole(sheet, n, m) {
         return Answer::Refused(5);
     }
-    let mut cells = [0u32; sheet::CELLS];
-    sheet::cells(sheet, 1 + n + m, &mut cells);
-    if !sheet::nodes_in_order(&cells, n) {
+    let mut lines = [0u32; layout::lines::CELLS];
+    sheet::cells(sheet, 1 + n + m, &mut lines);
+    if !sheet::nodes_in_order(&lines, n) {
         return Answer::Refused(5);
     }
-    if !sheet::genes_in_order(&cells, n, m) {
+    if !sheet::genes_in_order(&lines, n, m) {
         return Answer::Refused(5);
     }
-    score_cells(h, &cells, result, scratch)
+    score_network(h, &lines, result, scratch)
 }
 
 // Scores a sheet: a report in the result and the table of the whole network in the scratch, or a refusal that touches neither.

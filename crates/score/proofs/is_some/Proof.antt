@@ -1,9 +1,10 @@
--- 1 for a number that is not 0: the test of the two ways out.
 -- Assumes nothing.
-use Rattle.finite.proofs.Tests.{is-same, not-same}
 use borrow.Author.Needs.{needs}
+use Rattle.finite.proofs.Tests.{is-same, not-same}
 use Rattle.score.proofs.is_some.Statement.{statement}
 use Rattle.score.proofs.is_some.Tie as tie
+use Rattle.score.proofs.is_some.Reads as reads
+use Rattle.score.proofs.is_some.Lts as lts
 
 returns : tie.Need-returns
 returns c = (rw (is-same (c .if1 .taken)), search needs)

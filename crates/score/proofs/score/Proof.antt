@@ -1,17 +1,20 @@
--- The call: each way out has its outcome, and the promise follows from that.
 -- Assumes nothing.
-use mathlib.Core.Path.{sym, _∙_}
 use Rattle.score.proofs.Outcomes.{words-refused, bytes-refused, header-outcome}
 use Rattle.score.proofs.Promises.{promise}
+use mathlib.Core.Path.{sym, _∙_}
 use borrow.Author.Needs.{needs}
 use Rattle.score.proofs.score.Statement.{statement}
 use Rattle.score.proofs.score.Tie as tie
+use Rattle.score.proofs.score.Reads as reads
+use Rattle.score.proofs.score.Lts as lts
+use Rattle.score.proofs.score_lines.Reads as score-lines-reads
+use Rattle.sheet.proofs.read_header.Reads as read-header-reads
 
 returns : tie.Need-returns
-returns c = promise _ _ _ _ _ _ (words-refused _ _ _ _ (c .if1 .taken))
+returns c = promise _ _ _ _ _ _ (words-refused _ _ _ (c .if1 .taken))
 
 returns-2 : tie.Need-returns-2
-returns-2 c = promise _ _ _ _ _ _ (bytes-refused _ _ _ _ (search needs) (c .if2 .taken))
+returns-2 c = promise _ _ _ _ _ _ (bytes-refused _ _ _ (search needs) (c .if2 .taken))
 
 read-header-requires : tie.Need-read-header-requires
 read-header-requires c κs = search needs
@@ -26,7 +29,7 @@ score-lines-requires : tie.Need-score-lines-requires
 score-lines-requires c κs = record { header = sym (c .before .before .before .headed2 .given .1) ∙ c .before .before .before .before .before .read-header .ensures; room = search needs; space = search needs }
 
 returns-3 : tie.Need-returns-3
-returns-3 c = promise _ _ _ _ _ _ (header-outcome _ _ _ _ _ (sym (c .before .headed .given .1) ∙ c .before .before .before .read-header .ensures) (search needs) (search needs))
+returns-3 c = promise _ _ _ _ _ _ (header-outcome _ _ _ _ (sym (c .before .headed .given .1) ∙ c .before .before .before .read-header .ensures) (search needs) (search needs))
 
 same-length : tie.Need-same-length
 same-length c = search needs

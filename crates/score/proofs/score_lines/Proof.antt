@@ -1,64 +1,58 @@
--- A sheet whose header is within the limits: 5 where the length or a later line is amiss, else the outcome of its tables.
 -- Assumes nothing.
 use native.Mathlib.Omega.{arith}
+use Rattle.score.proofs.Outcomes.{header-is, not-whole, nodes-amiss, genes-amiss, all-well, sized, five-passed, five-refused}
 use Rattle.sheet.proofs.Storing.{cells-start}
-use Rattle.score.proofs.Outcomes.{header-is, few, five-refused, five-passed, not-whole, nodes-amiss, genes-amiss, all-well, sized}
 use borrow.Author.Needs.{needs}
 use Rattle.score.proofs.score_lines.Statement.{statement}
 use Rattle.score.proofs.score_lines.Tie as tie
+use Rattle.score.proofs.score_lines.Reads as reads
+use Rattle.score.proofs.score_lines.Lts as lts
+use Rattle.score.proofs.score_network.Reads as score-network-reads
+use Rattle.sheet.proofs.cells.Reads as cells-reads
+use Rattle.sheet.proofs.genes_in_order.Reads as genes-in-order-reads
+use Rattle.sheet.proofs.is_whole.Reads as is-whole-reads
+use Rattle.sheet.proofs.nodes_in_order.Reads as nodes-in-order-reads
 
 is-whole-requires : tie.Need-is-whole-requires
-is-whole-requires c κs =
-    let f = few _ _ (header-is _ _ (c .before .before .before .pre .header)) in
-    (f .few-nodes, f .few-genes)
+is-whole-requires c κs = let f = header-is _ _ (c .before .before .before .pre .header) .limited in (f .few-nodes, f .few-genes)
 
 returns : tie.Need-returns
-returns c =
+returns c = 
     let p = c .before .before .before .before .before .pre in
     let k = header-is _ _ (p .header) in
     five-refused _ _ k _ _ (p .room) (p .space) (not-whole _ _ k _ (c .before .is-whole .ensures) (c .if1 .taken))
 
 add-cells : tie.Need-add-cells
-add-cells c =
-    let f = few _ _ (header-is _ _ (c .before .before .before .before .before .pre .header)) in
-    omega (arith, f .few-nodes, f .few-genes)
+add-cells c = let f = header-is _ _ (c .before .before .before .before .before .pre .header) .limited in omega (arith, f .few-nodes, f .few-genes)
 
 add-cells-2 : tie.Need-add-cells-2
-add-cells-2 c =
-    let f = few _ _ (header-is _ _ (c .before .before .before .before .before .pre .header)) in
-    omega (arith, f .few-nodes, f .few-genes)
+add-cells-2 c = let f = header-is _ _ (c .before .before .before .before .before .pre .header) .limited in omega (arith, f .few-nodes, f .few-genes)
 
 cells-requires : tie.Need-cells-requires
-cells-requires c κs =
-    let f = few _ _ (header-is _ _ (c .before .before .before .before .before .before .pre .header)) in
-    (omega (arith, f .few-nodes, f .few-genes), cells-start _)
+cells-requires c κs = let f = header-is _ _ (c .before .before .before .before .before .before .pre .header) .limited in (omega (arith, f .few-nodes, f .few-genes), cells-start _)
 
 nodes-in-order-requires : tie.Need-nodes-in-order-requires
-nodes-in-order-requires c κs =
-    let f = few _ _ (header-is _ _ (c .before .before .before .before .before .before .before .before .pre .header)) in
-    f .few-nodes
+nodes-in-order-requires c κs = let f = header-is _ _ (c .before .before .before .before .before .before .before .before .pre .header) .limited in f .few-nodes
 
 returns-2 : tie.Need-returns-2
-returns-2 c =
+returns-2 c = 
     let p = c .before .before .before .before .before .before .before .before .before .before .pre in
     let k = header-is _ _ (p .header) in
-    five-refused _ _ k _ _ (p .room) (p .space) (nodes-amiss _ _ k _ (c .before .before .before .cells2 .ensures) _ (c .before .nodes-in-order .ensures) (c .if2 .taken))
+    five-refused _ _ k _ _ (p .room) (p .space) (nodes-amiss _ _ k _ (c .before .before .before .cells .ensures) _ (c .before .nodes-in-order .ensures) (c .if2 .taken))
 
 genes-in-order-requires : tie.Need-genes-in-order-requires
-genes-in-order-requires c κs =
-    let f = few _ _ (header-is _ _ (c .before .before .before .before .before .before .before .before .before .before .before .pre .header)) in
-    (f .few-nodes, f .few-genes)
+genes-in-order-requires c κs = let f = header-is _ _ (c .before .before .before .before .before .before .before .before .before .before .before .pre .header) .limited in (f .few-nodes, f .few-genes)
 
 returns-3 : tie.Need-returns-3
-returns-3 c =
+returns-3 c = 
     let p = c .before .before .before .before .before .before .before .before .before .before .before .before .before .pre in
     let k = header-is _ _ (p .header) in
-    five-refused _ _ k _ _ (p .room) (p .space) (genes-amiss _ _ k _ (c .before .before .before .before .before .before .cells2 .ensures) _ (c .before .genes-in-order .ensures) (c .if3 .taken))
+    five-refused _ _ k _ _ (p .room) (p .space) (genes-amiss _ _ k _ (c .before .before .before .before .before .before .cells .ensures) _ (c .before .genes-in-order .ensures) (c .if3 .taken))
 
-score-cells-requires : tie.Need-score-cells-requires
-score-cells-requires c κs =
+score-network-requires : tie.Need-score-network-requires
+score-network-requires c κs = 
     let p = c .before .before .before .before .before .before .before .before .before .before .before .before .before .before .before .before .pre in
-    sized _ _ (header-is _ _ (p .header)) _ (c .before .before .before .before .before .before .before .before .before .cells2 .ensures) _ _ (p .room) (p .space)
+    sized _ _ (header-is _ _ (p .header)) _ (c .before .before .before .before .before .before .before .before .before .cells .ensures) _ _ (p .room) (p .space)
 
 same-length : tie.Need-same-length
 same-length c = search needs
@@ -67,15 +61,12 @@ same-length-2 : tie.Need-same-length-2
 same-length-2 c = search needs
 
 returns-4 : tie.Need-returns-4
-returns-4 c =
-    let genes = c .before .before .before .before .before .before .before .before .before in
-    let nodes = genes .before .before .before in
-    let cells = nodes .before .before in
-    let whole = cells .before .before .before in
-    let p = whole .before .before .before .before .pre in
+returns-4 c = 
+    let p = c .before .before .before .before .before .before .before .before .before .before .before .before .before .before .before .before .before .before .before .before .before .pre in
     let k = header-is _ _ (p .header) in
-    let cells-are = cells .cells2 .ensures in
-    five-passed _ _ k _ cells-are _ _ _ _ _ (p .room) (p .space) (all-well _ _ k _ cells-are _ _ _ (whole .is-whole .ensures) (cells .before .before .if1 .left) (nodes .nodes-in-order .ensures) (genes .before .before .if2 .left) (genes .genes-in-order .ensures) (c .before .before .before .before .before .before .before .before .if3 .left)) (c .before .before .before .before .score-cells .ensures)
+    let cells-are = c .before .before .before .before .before .before .before .before .before .before .before .before .before .before .cells .ensures in
+    let well = all-well _ _ k _ cells-are _ _ _ (c .before .before .before .before .before .before .before .before .before .before .before .before .before .before .before .before .before .is-whole .ensures) (c .before .before .before .before .before .before .before .before .before .before .before .before .before .before .before .before .if1 .left) (c .before .before .before .before .before .before .before .before .before .before .before .before .nodes-in-order .ensures) (c .before .before .before .before .before .before .before .before .before .before .before .if2 .left) (c .before .before .before .before .before .before .before .before .before .genes-in-order .ensures) (c .before .before .before .before .before .before .before .before .if3 .left) in
+    five-passed _ _ k _ cells-are _ _ _ _ _ (p .room) (p .space) well (c .before .before .before .before .score-network .ensures)
 
 pub score-lines-spec : {M : Type 1} → statement M
 score-lines-spec =
@@ -90,7 +81,7 @@ score-lines-spec =
     returns-2
     genes-in-order-requires
     returns-3
-    score-cells-requires
+    score-network-requires
     same-length
     same-length-2
     returns-4)

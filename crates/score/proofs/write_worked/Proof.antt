@@ -1,62 +1,51 @@
--- The report of a family by its tables: the search, the whole network and the report ask what the verdicts and the tables give (proofs/Families).
 -- Assumes nothing.
+use Rattle.tables.specs.Columns.{blank}
 use mathlib.Core.Path.{refl}
-use native.Mathlib.Omega.{arith}
-use Rattle.finite.specs.Tables.{zeros}
-use Rattle.score.proofs.Families.{prepares, whole-ready, whole-room, whole-is, whole-low, table-is, mapped, written-family}
+use Rattle.score.proofs.Reports.{prepares, whole-ready, whole-room, nodes-small, genes-small, report-room, totals-fit, written-family}
 use borrow.Author.Needs.{needs}
 use Rattle.score.proofs.write_worked.Statement.{statement}
 use Rattle.score.proofs.write_worked.Tie as tie
+use Rattle.score.proofs.write_worked.Reads as reads
+use Rattle.score.proofs.write_worked.Lts as lts
+use Rattle.report.proofs.write_report.Reads as write-report-reads
+use Rattle.score.proofs.totals.Reads as totals-reads
+use Rattle.search.proofs.run.Reads as run-reads
+use Rattle.whole_network.proofs.fill.Reads as fill-reads
 
 run-requires : tie.Need-run-requires
-unfolding zeros
-run-requires c κs = let s = c .before .before .before .before .before .before .pre in (prepares _ _ _ _ _ _ _ _ _ (s .0) (s .1 .0) _ _ _ _ _ _ _ (s .1 .1), (refl, refl, refl, refl))
+unfolding blank
+run-requires c κs = let E = c .before .before .before .before .before .pre in (prepares _ _ _ _ (E .sized) (E .passed) _ _ E, refl, refl, refl)
 
 fill-requires : tie.Need-fill-requires
-fill-requires c κs =
-    let s = c .before .before .before .before .before .before .before .before .pre in
-    (whole-ready _ _ _ _ _ _ _ _ _ (s .0) (s .1 .0) _ _ _ _ _ _ _ (s .1 .1), whole-room _ _ _ _ _ _ _ _ _ (s .0) (s .1 .0) _ _ _ _ _ _ _ (s .1 .1))
+fill-requires c κs = let E = c .before .before .before .before .before .before .before .pre in (whole-ready _ _ _ _ (E .sized) (E .passed) _ _ E, whole-room _ _ _ _ (E .sized) (E .passed) _ _ E)
 
-cast-t36 : tie.Need-cast-t36
-cast-t36 c = omega (arith, c .before .before .before .before .before .before .before .before .before .before .before .pre .0 .few-nodes)
+totals-requires : tie.Need-totals-requires
+totals-requires c κs = search needs
 
-cast-t37 : tie.Need-cast-t37
-cast-t37 c = omega (arith, c .before .before .before .before .before .before .before .before .before .before .before .pre .0 .few-genes)
-
-count-some-requires : tie.Need-count-some-requires
-count-some-requires c κs = c .before .before .before .before .before .before .before .before .before .before .before .pre .0 .few-nodes
-
-count-some-requires-2 : tie.Need-count-some-requires-2
-count-some-requires-2 c κs = c .before .before .before .before .before .before .before .before .before .before .before .before .pre .0 .few-nodes
-
-write-mapped-requires : tie.Need-write-mapped-requires
-write-mapped-requires c κs =
-    let s = c .before .before .before .before .before .before .before .before .before .before .before .before .before .before .before .before .before .before .before .before .before .before .pre in
-    let run-is = c .before .before .before .before .before .before .before .before .before .before .before .before .before .before .before .run .ensures in
-    let fill-is = c .before .before .before .before .before .before .before .before .before .before .before .before .before .fill .ensures in
-    let some-is = c .before .before .before .before .before .before .before .before .before .before .count-some .ensures in
-    let others-is = c .before .before .before .before .before .before .before .before .before .count-some2 .ensures in
-    let is = whole-is _ _ _ _ _ _ _ _ _ (s .0) (s .1 .0) _ _ _ _ _ _ _ (s .1 .1) _ _ _ fill-is in
-    let low = whole-low _ _ _ _ _ _ _ _ _ (s .0) (s .1 .0) _ _ _ _ _ _ _ (s .1 .1) _ _ _ fill-is in
-    (mapped _ _ _ _ _ _ _ _ _ (s .0) (s .1 .0) _ _ _ _ _ _ _ (s .1 .1) _ (run-is .0) _ _ _ is low (some-is .0) (others-is .0), run-is .1)
+write-report-requires : tie.Need-write-report-requires
+write-report-requires c κs = 
+    let E = c .before .before .before .before .before .before .before .before .before .before .before .before .before .before .pre in
+    let S = E .sized in
+    let P = E .passed in
+    let T = c .before .before .before .before .before .before .fill .ensures in
+    let F = c .before .before .before .before .before .before .before .before .run .ensures in
+    let e = c .before .before .before .totals .ensures in
+    ((S .limits .few-nodes, S .limits .few-genes, totals-fit _ _ _ _ S P _ _ E _ _ _ T _ _ _ _ F _ e, nodes-small _ _ _ _ S P _ _ E _ _ _ T _ _ _ _ F, genes-small _ _ _ _ S P _ _ E _ _ _ T _ _ _ _ F), report-room _ _ _ _ S P _ _ E _ _ _ T _ _ _ _ F)
 
 same-length : tie.Need-same-length
 same-length c = search needs
 
 same-length-2 : tie.Need-same-length-2
-same-length-2 c = let h = c .before .before .before .before .before .before .before .before .before .before .before .before .before .before .before .scratch .given in search needs
+same-length-2 c = search needs
 
 returns : tie.Need-returns
-returns c =
-    let s = c .before .before .before .before .before .before .before .before .before .before .before .before .before .before .before .before .before .before .before .before .before .before .before .before .before .pre in
-    let run-is = c .before .before .before .before .before .before .before .before .before .before .before .before .before .before .before .before .before .before .run .ensures in
-    let fill-is = c .before .before .before .before .before .before .before .before .before .before .before .before .before .before .before .before .fill .ensures in
-    let some-is = c .before .before .before .before .before .before .before .before .before .before .before .before .before .count-some .ensures in
-    let others-is = c .before .before .before .before .before .before .before .before .before .before .before .before .count-some2 .ensures in
-    let is = whole-is _ _ _ _ _ _ _ _ _ (s .0) (s .1 .0) _ _ _ _ _ _ _ (s .1 .1) _ _ _ fill-is in
-    let low = whole-low _ _ _ _ _ _ _ _ _ (s .0) (s .1 .0) _ _ _ _ _ _ _ (s .1 .1) _ _ _ fill-is in
-    let table = table-is _ _ _ _ _ _ _ _ _ (s .0) (s .1 .0) _ _ _ _ _ _ _ (s .1 .1) _ _ _ fill-is in
-    written-family _ _ _ _ _ _ _ _ _ (s .0) (s .1 .0) _ _ _ _ _ _ _ (s .1 .1) _ (run-is .0) _ _ _ is low (some-is .0) (others-is .0) _ _ _ _ _ (c .before .before .write-mapped .ensures) table
+returns c = 
+    let E = c .before .before .before .before .before .before .before .before .before .before .before .before .before .before .before .before .before .pre in
+    let T = c .before .before .before .before .before .before .before .before .before .fill .ensures in
+    let F = c .before .before .before .before .before .before .before .before .before .before .before .run .ensures in
+    let e = c .before .before .before .before .before .before .totals .ensures in
+    let w = c .before .before .write-report .ensures in
+    written-family _ _ _ _ (E .sized) (E .passed) _ _ E _ _ _ T _ _ _ _ F _ e _ _ _ (w .0) (w .1)
 
 pub write-worked-spec : {M : Type 1} → statement M
 write-worked-spec =
@@ -64,11 +53,8 @@ write-worked-spec =
     (tie.spec
     run-requires
     fill-requires
-    cast-t36
-    cast-t37
-    count-some-requires
-    count-some-requires-2
-    write-mapped-requires
+    totals-requires
+    write-report-requires
     same-length
     same-length-2
     returns)

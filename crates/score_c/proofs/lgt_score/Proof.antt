@@ -25,7 +25,7 @@ same-length-2 : tie.Need-same-length-2
 same-length-2 c = search needs
 
 returns : tie.Need-returns
-returns c = record { answer = _; promise = c .before .before .before .before .before .before .before .score .ensures; number = sym (ap numberOf (c .before .answer .given .1)) }
+returns c = record { answer = _; promise = c .before .before .before .before .before .before .before .score .ensures; told = sym (ap numberOf (c .before .answer .given .1)) }
 
 same-length-3 : tie.Need-same-length-3
 same-length-3 c = search needs
@@ -34,7 +34,7 @@ same-length-4 : tie.Need-same-length-4
 same-length-4 c = search needs
 
 returns-2 : tie.Need-returns-2
-returns-2 c = record { answer = _; promise = c .before .before .before .before .before .before .before .score .ensures; number = sym (ap numberOf (c .before .answer2 .given .1)) }
+returns-2 c = record { answer = _; promise = c .before .before .before .before .before .before .before .score .ensures; told = sym (ap numberOf (c .before .answer2 .given .1)) }
 
 pub lgt-score-spec : {M : Type 1} → statement M
 lgt-score-spec =
