@@ -7,12 +7,11 @@ use Prim.Native.Nat.{ℕ, _≤_, _<_}
 use native.Mathlib.Omega.{arith}
 use lib.ListN.{length}
 use Rattle.finite.specs.Tables.{within}
-use Rattle.finite.specs.Tests.{same, under}
 use Rattle.finite.proofs.Every.{first-same}
 use Rattle.finite.proofs.Tables.{within-in}
-use Rattle.tables.specs.Columns.{entry, column, blank, Clear, Kept}
+use Rattle.tables.specs.Columns.{entry, column, Clear, Kept}
 use Rattle.tables.specs.Children.{isNext, next}
-use Rattle.tables.proofs.Columns.{column-long, column-in, column-keeps, column-clear, blank-clear}
+use Rattle.tables.proofs.Columns.{column-in, column-keeps, column-clear}
 use Rattle.topology.specs.Lines.{NodeLines, network}
 use Rattle.layout.specs.Lines.{principal, secondary, nodesIn}
 use Rattle.histories.specs.Families.{firstChild, secondChild, otherChild}
@@ -24,45 +23,50 @@ next-within : (n : ℕ) (f : ℕ → ℕ) (a x : ℕ) → next n f a x ≡ next 
 unfolding next isNext
 next-within n f a x = first-same n (isNext f a x) (isNext (within n f) a x) (λ v l u. rw (within-in n f v l u))
 
-pub start-clear : {t : List ℕ} → t ≡ blank → (k : ℕ) → k < 4 → Clear k t
-start-clear e k l = rw e (blank-clear k l)
+-- a pass leaves the other columns as they are
+pub next-clear : (k n : ℕ) {j : ℕ} {t s : List ℕ} (f : ℕ → ℕ) → n ≤ 127 → s ≡ column k n t f → j ≢ k → Clear j t → Clear j s
+next-clear k n {j} {t} f few e d c = rw e (column-clear k t f n j (omega arith) d c)
 
 -- the three passes, one after the other
-module _ (n : ℕ) (lines : List ℕ) {t₀ : List ℕ} (few : n ≤ 127) (e₀ : t₀ ≡ blank) where
-  module _ {t₁ : List ℕ} (e₁ : t₁ ≡ column firstColumn n t₀ (λ v. next n (principal lines) (entry t₀ orderColumn v) v)) where
-    pub first-clear : (k : ℕ) → k < 4 → k ≢ firstColumn → Clear k t₁
-    first-clear k l d = rw e₁ (column-clear firstColumn t₀ _ n k (omega arith) d (start-clear e₀ k l))
+module _ (n : ℕ) (lines : List ℕ) {t₀ t₁ t₂ t₃ : List ℕ} (few : n ≤ 127) (c₀ : (k : ℕ) → k < 4 → Clear k t₀)
+    (e₁ : t₁ ≡ column firstColumn n t₀ (λ v. next n (principal lines) (entry t₀ orderColumn v) v))
+    (e₂ : t₂ ≡ column secondColumn n t₁ (λ v. next n (principal lines) (entry t₁ firstColumn v) v))
+    (e₃ : t₃ ≡ column otherColumn n t₂ (λ v. next n (secondary lines) (entry t₂ orderColumn v) v)) where
+  order₀ : Clear orderColumn t₀
+  order₀ = c₀ orderColumn (omega arith)
 
-    first-in : (v : ℕ) → 1 ≤ v → v ≤ n → entry t₁ firstColumn v ≡ firstChild (nodesIn n lines) v
-    unfolding firstChild nodesIn
-    first-in v l u = rw e₁ (column-in firstColumn t₀ _ n v (omega arith) l u (omega (arith, start-clear e₀ 0 (omega arith) .long))
-        ∙ rw (start-clear e₀ orderColumn (omega arith) .none v) (next-within n (principal lines) 0 v))
+  order₁ : Clear orderColumn t₁
+  order₁ = next-clear _ _ _ few e₁ (λ e. omega arith) order₀
 
-    module _ {t₂ : List ℕ} (e₂ : t₂ ≡ column secondColumn n t₁ (λ v. next n (principal lines) (entry t₁ firstColumn v) v)) where
-      pub second-clear : (k : ℕ) → k < 4 → k ≢ firstColumn → k ≢ secondColumn → Clear k t₂
-      second-clear k l a b = rw e₂ (column-clear secondColumn t₁ _ n k (omega arith) b (first-clear k l a))
+  order₂ : Clear orderColumn t₂
+  order₂ = next-clear _ _ _ few e₂ (λ e. omega arith) order₁
 
-      second-in : (v : ℕ) → 1 ≤ v → v ≤ n → entry t₂ secondColumn v ≡ secondChild (nodesIn n lines) v
-      unfolding secondChild nodesIn
-      second-in v l u = rw e₂ (column-in secondColumn t₁ _ n v (omega arith) l u (omega (arith, first-clear 0 (omega arith) (λ e. omega arith) .long))
-          ∙ rw (first-in v l u) (next-within n (principal lines) (firstChild (nodesIn n lines) v) v))
+  first-in : (v : ℕ) → 1 ≤ v → v ≤ n → entry t₁ firstColumn v ≡ firstChild (nodesIn n lines) v
+  unfolding firstChild nodesIn
+  first-in v l u = rw e₁ (column-in firstColumn t₀ _ n v (omega arith) l u (omega (arith, order₀ .long)) ∙ rw (order₀ .none v) (next-within n (principal lines) 0 v))
 
-      module _ {t₃ : List ℕ} (e₃ : t₃ ≡ column otherColumn n t₂ (λ v. next n (secondary lines) (entry t₂ orderColumn v) v)) where
-        kept₃ : (k v : ℕ) → k ≢ otherColumn → entry t₃ k v ≡ entry t₂ k v
-        kept₃ k v d = rw e₃ (column-keeps otherColumn t₂ _ n v k (omega arith) d)
+  second-in : (v : ℕ) → 1 ≤ v → v ≤ n → entry t₂ secondColumn v ≡ secondChild (nodesIn n lines) v
+  unfolding secondChild nodesIn
+  second-in v l u = rw e₂ (column-in secondColumn t₁ _ n v (omega arith) l u (omega (arith, order₁ .long)) ∙ rw (first-in v l u) (next-within n (principal lines) (firstChild (nodesIn n lines) v) v))
 
-        pub other-clear : Clear orderColumn t₃
-        other-clear = rw e₃ (column-clear otherColumn t₂ _ n orderColumn (omega arith) (λ e. omega arith) (second-clear orderColumn (omega arith) (λ e. omega arith) (λ e. omega arith)))
+  other-in : (v : ℕ) → 1 ≤ v → v ≤ n → entry t₃ otherColumn v ≡ otherChild (nodesIn n lines) v
+  unfolding otherChild nodesIn
+  other-in v l u = rw e₃ (column-in otherColumn t₂ _ n v (omega arith) l u (omega (arith, order₂ .long)) ∙ rw (order₂ .none v) (next-within n (secondary lines) 0 v))
 
-        pub listed : Childed (nodesIn n lines) t₃
-        unfolding otherChild nodesIn
-        listed = record {
-          long = other-clear .long;
-          firsts = λ v l u. kept₃ firstColumn v (λ e. omega arith) ∙ rw e₂ (column-keeps secondColumn t₁ _ n v firstColumn (omega arith) (λ e. omega arith)) ∙ first-in v l u;
-          seconds = λ v l u. kept₃ secondColumn v (λ e. omega arith) ∙ second-in v l u;
-          others = λ v l u. rw e₃ (column-in otherColumn t₂ _ n v (omega arith) l u (omega (arith, second-clear 0 (omega arith) (λ e. omega arith) (λ e. omega arith) .long))
-              ∙ rw (second-clear orderColumn (omega arith) (λ e. omega arith) (λ e. omega arith) .none v) (next-within n (secondary lines) 0 v));
-        }
+  kept : (k v : ℕ) → k ≢ otherColumn → entry t₃ k v ≡ entry t₂ k v
+  kept k v d = rw e₃ (column-keeps otherColumn t₂ _ n v k (omega arith) d)
+
+  pub listed : Childed (nodesIn n lines) t₃ × Clear orderColumn t₃
+  unfolding nodesIn
+  listed = let order₃ = next-clear _ _ _ few e₃ (λ e. omega arith) order₂ in (
+    record {
+      long = order₃ .long;
+      firsts = λ v l u. kept firstColumn v (λ e. omega arith) ∙ rw e₂ (column-keeps secondColumn t₁ _ n v firstColumn (omega arith) (λ e. omega arith)) ∙ first-in v l u;
+      seconds = λ v l u. kept secondColumn v (λ e. omega arith) ∙ second-in v l u;
+      others = other-in;
+    },
+    order₃,
+  )
 
 -- the order leaves the columns of children as they are
 pub laid : {L : NodeLines} {t s : List ℕ} → Childed L t → Kept orderColumn t s → length s ≡ 512 → Order (network L) (order s) → Laid L s

@@ -14,7 +14,7 @@ use Rattle.finite.proofs.Cases.{byEq}
 use Rattle.finite.proofs.Tests.{is-same, not-same, tally-le, not-no, not-yes, tally-no, tally-yes}
 use Rattle.finite.proofs.Sum.{sum-short, sum-point}
 use Rattle.finite.proofs.Count.{count-zero}
-use Rattle.tables.specs.Columns.{written, blank, Clear, Kept}
+use Rattle.tables.specs.Columns.{written, Clear, Kept}
 use Rattle.tables.proofs.Columns.{long, write-here, write-row, kept-write, kept-then}
 use Rattle.topology.specs.Networks.{Network, Node, Sound}
 use Rattle.topology.specs.Switchings.{height}
@@ -166,7 +166,7 @@ module _ (n v : ℕ) (lines : List ℕ) (high : v ≤ n) (some : v ≢ 0) (ok : 
   }
 
 -- before the walk nobody stands
-pub walked-none : {N : Network} {out walk : List ℕ} → Clear orderColumn out → Clear 0 walk → Walked N out walk
+walked-none : {N : Network} {out walk : List ℕ} → Clear orderColumn out → Clear 0 walk → Walked N out walk
 walked-none {N} {out} {walk} a b = record {
   out-long = a .long;
   walk-long = b .long;

@@ -8,7 +8,7 @@ use Prim.Native.Nat.{ℕ, _+_}
 use Rattle.histories.specs.Histories.{Cost, _⊓_, then, both, resting, parting, moving, leaf}
 use Rattle.histories.specs.Rows.{Cell}
 use Rattle.histories.specs.Families.{outBy}
-use Rattle.histories.proofs.Clauses.{out-leaf, out-two, out-mixed, out-one}
+use Rattle.histories.proofs.Outs.{out-leaf, out-two, out-mixed, out-one}
 use Rattle.cell_costs.specs.Costs.{costIn, Readable, tipCost, innerCost, transferring}
 use Rattle.cell_costs.proofs.Sums.{or-none}
 
@@ -66,5 +66,3 @@ module _ (r : List ℕ) (x y z : ℕ) (h : Readable r x y z) where
 
   pub read-other : (f u w : ℕ) → f ≡ x → u ≡ y → w ≡ z → f ≢ 0 → u ≡ 0 → w ≢ 0 → Cell r w
   read-other f u w ef eu ew d e q = rw ew (h .other (λ o. d (ef ∙ o)) (sym eu ∙ e) (λ o. q (ew ∙ o)))
-
-pub ruleset reads = (read-first, read-second, read-other)

@@ -17,7 +17,7 @@ use Rattle.histories.specs.Rows.{costAt, Small, Cell}
 use Rattle.histories.proofs.Words.{cost-none, cost-some}
 use Rattle.cell_costs.specs.Costs.{costIn}
 
-pub small-word : (w : ℕ) → Small (costOf w) → w ≢ noHistory → w ≤ 1000000000
+small-word : (w : ℕ) → Small (costOf w) → w ≢ noHistory → w ≤ 1000000000
 unfolding Small
 small-word w h d = rw (cost-some d) at h
 
@@ -39,14 +39,14 @@ pub sum-word : (w : ℕ) → w ≤ noHistory → costIn w ≡ costOf w
 sum-word w l = byEq w noHistory (λ e. rw (cost-none e) (sum-none (omega arith))) (λ d. rw (cost-some d) (sum-some (omega arith)))
 
 -- an event before one history
-pub sum-then : (x a : ℕ) → x ≤ 198 → Small (costOf a) → costIn (x + a) ≡ then x (costOf a)
+sum-then : (x a : ℕ) → x ≤ 198 → Small (costOf a) → costIn (x + a) ≡ then x (costOf a)
 unfolding then _⊕_
 sum-then x a l h = byEq a noHistory
     (λ e. rw (cost-none e) (sum-none (omega arith)))
     (λ d. let u = small-word a h d in rw (cost-some d) (sum-some (omega arith)))
 
 -- and before two
-pub sum-both : (x a b : ℕ) → x ≤ 198 → Small (costOf a) → Small (costOf b) → costIn (x + a + b) ≡ both x (costOf a) (costOf b)
+sum-both : (x a b : ℕ) → x ≤ 198 → Small (costOf a) → Small (costOf b) → costIn (x + a + b) ≡ both x (costOf a) (costOf b)
 unfolding both _⊕_
 sum-both x a b l h i = byEq a noHistory
     (λ e. rw (cost-none e) (sum-none (omega arith)))

@@ -1,12 +1,12 @@
 // One word of the table of least costs: a gene's at a node, from the words of its own row at the nodes that the arcs out lead to and of its children's
 // rows there and at the node itself.
 use arcs::Arcs;
-use layout::lines::Lines;
 use layout::Header;
+use layout::lines::Lines;
 use tables::wide;
 ghost use mathlib.Core.Path.{_≡_};
 ghost use Prim.Native.Nat.{ℕ, _+_, _≤_};
-ghost use lib.ListN.{length, drop};
+ghost use lib.ListN.{length};
 ghost use Rattle.layout.specs.Headers.{Limits};
 ghost use Rattle.histories.specs.Histories.{_⊓_, then, both, resting, leaf, leastOver};
 ghost use Rattle.histories.specs.Words.{costOf};
@@ -15,15 +15,6 @@ ghost use Rattle.cell_costs.specs.Costs.{costIn, Ends, Children, transfe
 
 // The word that stands for no history. Words are added as `usize`: a sum from this word on stands for none, so no word is told apart before it is added.
 const NONE: u32 = 4294967295;
-
-// A gene's row: where it begins, of a leaf gene its species, and of an inner gene where its children's rows begin.
-pub struct Row {
-    pub gene: usize,
-    pub start: usize,
-    pub species: usize,
-    pub left: usize,
-    pub right: usize,
-}
 
 // A word as a term of a sum.
 fn term(x: u32) -> usize
@@ -43,7 +34,7 @@ fn lesser(a: usize, b: usize) -> usize
 }
 
 // The word of a cost.
-fn clipped(c: usize) -> u32
+pub fn clipped(c: usize) -> u32
     ensures { λ r. ⌜ costOf r ≡ costIn c ⌝ }
 {
     if c < wide(NONE) {
@@ -78,28 +69,20 @@ fn rest(gene_species: usize, node_species: usize) -> usize
     0
 }
 
-// The children with the rows a and b part down two principal arcs, to x and y.
-fn speciated(a: &[u32], b: &[u32], x: usize, y: usize) -> usize
-    requires { ⌜ Cell (now a) x × Cell (now a) y × Cell (now b) x × Cell (now b) y ⌝ }
-    ensures { λ r. ⌜ costIn r ≡ (both 0 (costAt (now (a .entry)) x) (costAt (now (b .entry)) y) ⊓ both 0 (costAt (now (b .entry)) x) (costAt (now (a .entry)) y)) ⌝ }
+// The children with the rows a and b part, for a cost c: one starts at x, the other at y.
+fn parted(c: usize, a: &[u32], b: &[u32], x: usize, y: usize) -> usize
+    requires { ⌜ (c ≤ 99) × Cell (now a) x × Cell (now b) x × Cell (now a) y × Cell (now b) y ⌝ }
+    ensures { λ r. ⌜ costIn r ≡ (both c (costAt (now (a .entry)) x) (costAt (now (b .entry)) y) ⊓ both c (costAt (now (b .entry)) x) (costAt (now (a .entry)) y)) ⌝ }
 {
-    lesser(after_both(0, a, x, b, y), after_both(0, b, x, a, y))
+    lesser(after_both(c, a, x, b, y), after_both(c, b, x, a, y))
 }
 
-// One of them goes along the secondary arc to z, while the other starts at u.
-fn sent(a: &[u32], b: &[u32], z: usize, u: usize, t: usize) -> usize
-    requires { ⌜ (t ≤ 99) × Cell (now a) z × Cell (now b) z × Cell (now a) u × Cell (now b) u ⌝ }
-    ensures { λ r. ⌜ costIn r ≡ (both t (costAt (now (a .entry)) z) (costAt (now (b .entry)) u) ⊓ both t (costAt (now (b .entry)) z) (costAt (now (a .entry)) u)) ⌝ }
-{
-    lesser(after_both(t, a, z, b, u), after_both(t, b, z, a, u))
-}
-
-// The other stays at v, or takes the principal arc to x.
+// One of them goes along the secondary arc to z, while the other stays at v or takes the principal arc to x.
 fn transferred(a: &[u32], b: &[u32], v: usize, x: usize, z: usize, t: usize) -> usize
     requires { ⌜ (t ≤ 99) × Cell (now a) z × Cell (now b) z × Cell (now a) v × Cell (now b) v × Cell (now a) x × Cell (now b) x ⌝ }
     ensures { λ r. ⌜ costIn r ≡ transferring t (costAt (now (a .entry))) (costAt (now (b .entry))) v x z ⌝ }
 {
-    lesser(sent(a, b, z, v, t), sent(a, b, z, x, t))
+    lesser(parted(t, a, b, z, v), parted(t, a, b, z, x))
 }
 
 // The gene with the row g goes down one of two principal arcs, to x and y, with a loss.
@@ -119,7 +102,7 @@ fn carried(g: &[u32], x: usize, z: usize, t: usize, l: usize) -> usize
 }
 
 // The least cost of a leaf gene of this species, with the row g, at v: it rests, or it moves on.
-fn tip_cost(h: Header, g: &[u32], species: usize, v: usize, lines: &Lines, arcs: &Arcs) -> usize
+pub fn tip_cost(h: Header, g: &[u32], species: usize, v: usize, lines: &Lines, arcs: &Arcs) -> usize
     requires { ⌜ Limits h × (v ≤ 127) × Ends (now arcs) v (now g) ⌝ }
     ensures { λ r. ⌜ costIn r ≡ tipIn h species (now (lines .entry)) (now (arcs .entry)) (now (g .entry)) v ⌝ }
 {
@@ -139,7 +122,7 @@ fn tip_cost(h: Header, g: &[u32], species: usize, v: usize, lines: &Lines, arcs:
 }
 
 // The least cost of an inner gene with the row g, whose children have the rows a and b, at v: both children start there, or they part, or it moves on.
-fn inner_cost(h: Header, a: &[u32], b: &[u32], g: &[u32], v: usize, arcs: &Arcs) -> usize
+pub fn inner_cost(h: Header, a: &[u32], b: &[u32], g: &[u32], v: usize, arcs: &Arcs) -> usize
     requires { ⌜ Limits h × (v ≤ 127) × Ends (now arcs) v (now g) × Children (now arcs) v (now a) (now b) ⌝ }
     ensures { λ r. ⌜ ((s : ℕ) → costIn r ≡ innerIn h s (now (arcs .entry)) (now (a .entry)) (now (b .entry)) (now (g .entry)) v) ⌝ }
 {
@@ -151,7 +134,7 @@ fn inner_cost(h: Header, a: &[u32], b: &[u32], g: &[u32], v: usize, arcs: &Arcs)
     let y = arcs::second(arcs, v);
     if y != 0 {
         return lesser(
-            lesser(here, speciated(a, b, x, y)),
+            lesser(here, parted(0, a, b, x, y)),
             lost(g, x, y, wide(h.loss)),
         );
     }
@@ -164,27 +147,6 @@ fn inner_cost(h: Header, a: &[u32], b: &[u32], g: &[u32], v: usize, arcs: &Arcs)
         lesser(here, transferred(a, b, v, x, z, t)),
         carried(g, x, z, t, wide(h.loss)),
     )
-}
-
-// The word of a leaf gene at v.
-pub fn tip_word(h: Header, row: Row, v: usize, lines: &Lines, arcs: &Arcs, scratch: &[u32]) -> u32
-    requires { ⌜ Limits h × (v ≤ 127) × (row .start ≤ length (now scratch)) × Ends (now arcs) v (drop (row .start) (now scratch)) ⌝ }
-    ensures { λ r. ⌜ costOf r ≡ tipIn h (row .species) (now (lines .entry)) (now (arcs .entry)) (drop (row .start) (now (scratch .entry))) v ⌝ }
-{
-    let g = row.start;
-    clipped(tip_cost(h, &scratch[g..], row.species, v, lines, arcs))
-}
-
-// The word of an inner gene at v.
-pub fn inner_word(h: Header, row: Row, v: usize, arcs: &Arcs, scratch: &[u32]) -> u32
-    requires { ⌜ Limits h × (v ≤ 127) × (row .start ≤ length (now scratch)) × (row .left ≤ length (now scratch)) × (row .right ≤ length (now scratch)) ⌝ }
-    requires { ⌜ Ends (now arcs) v (drop (row .start) (now scratch)) × Children (now arcs) v (drop (row .left) (now scratch)) (drop (row .right) (now scratch)) ⌝ }
-    ensures { λ r. ⌜ ((s : ℕ) → costOf r ≡ innerIn h s (now (arcs .entry)) (drop (row .left) (now (scratch .entry))) (drop (row .right) (now (scratch .entry))) (drop (row .start) (now (scratch .entry))) v) ⌝ }
-{
-    let a = row.left;
-    let b = row.right;
-    let g = row.start;
-    clipped(inner_cost(h, &scratch[a..], &scratch[b..], &scratch[g..], v, arcs))
 }
 
 // The least word of the row of gene 1.

@@ -19,7 +19,7 @@ use Rattle.histories.specs.Histories.{leaf, tip, pair, Family}
 use Rattle.histories.specs.Grades.{Leads, Graded, Limits, Order, Schedule, Prepared}
 use Rattle.histories.specs.Families.{next, outBy, geneBy, firstChild, secondChild, otherChild, outOf, geneOf, familyOf}
 use Rattle.histories.specs.Accepted.{Accepted}
-use Rattle.histories.proofs.Clauses.{byOut}
+use Rattle.histories.proofs.Outs.{byOut}
 use Rattle.histories.proofs.Sizes.{size, size-low, size-le, size-splits}
 
 module _ (L : NodeLines) (K : GeneLines) (G : GeneTree) (C : Costs) where
@@ -50,17 +50,13 @@ module _ (L : NodeLines) (K : GeneLines) (G : GeneTree) (C : Costs) where
     by-child : (parent : ℕ → ℕ) (u : ℕ) → ((x : ℕ) → 1 ≤ x → x ≤ L .size → parent x ≡ v → P x) → next (L .size) parent u v ≢ 0 → P (next (L .size) parent u v)
     by-child parent u f d = let q = next-is (L .size) parent u v d in f (next (L .size) parent u v) (omega arith) (q .0) (q .2)
 
-    pub leads-out : 1 ≤ v → v ≤ L .size → Leads P (Whole .out v)
+    leads-out : 1 ≤ v → v ≤ L .size → Leads P (Whole .out v)
     unfolding Leads firstChild secondChild otherChild
-    leads-out lv uv =
-        let first = by-child (L .principal) 0 p in
-        let second = by-child (L .principal) (firstChild L v) p in
-        let other = by-child (L .secondary) 0 s in
-        rw (out-at v lv uv) (byOut (firstChild L v) (secondChild L v) (otherChild L v) (L .species v)
+    leads-out lv uv = rw (out-at v lv uv) (byOut (firstChild L v) (secondChild L v) (otherChild L v) (L .species v)
         (λ e. rw e tt)
-        (λ a b e. rw e (first a, second b))
-        (λ a b c e. rw e (first a, other c))
-        (λ a e. rw e (first a)))
+        (λ a b e. rw e (by-child (L .principal) _ p a, by-child (L .principal) _ p b))
+        (λ a b c e. rw e (by-child (L .principal) _ p a, by-child (L .secondary) _ s c))
+        (λ a e. rw e (by-child (L .principal) _ p a)))
 
   pub gene-tip : (g : ℕ) → G .left g ≡ 0 → Whole .gene g ≡ tip (K .species g)
   unfolding familyOf geneOf geneBy

@@ -79,7 +79,7 @@ module _ (F : Family) where
     few-steps {g} {v} (pass {x} (inl e) h) = let f = one-end F ok e in let q = down g (steps h) (height x) (height v) (few-steps h) (omega arith) in omega arith
     few-steps {g} {v} (pass {x} (inr e) h) = let f = mixed-ends F ok (e .1) in let q = down g (steps h) (height x) (height v) (few-steps h) (omega arith) in omega arith
 
-    pub cost-bound : (U : ℕ) → duplication ≤ U → transfer + loss ≤ U → {g v : ℕ} (h : History F g v) → cost F h ≤ U * (size g * suc (height v))
+    cost-bound : (U : ℕ) → duplication ≤ U → transfer + loss ≤ U → {g v : ℕ} (h : History F g v) → cost F h ≤ U * (size g * suc (height v))
     cost-bound U du tu h = le-trans (by-steps U du tu h) (mul-le-mul-left U (few-steps h))
 
     -- within the limits of 01 a least cost is far below the word for no history

@@ -31,7 +31,7 @@ pub cell-in : (n m g v : ℕ) → 1 ≤ g → g ≤ m → 1 ≤ v → v ≤ n �
 unfolding cell
 cell-in n m g v lg ug lv uv = omega (arith, rows-apart n g (suc m) lg (omega arith), before m n)
 
-pub cell-apart : (n g v h u : ℕ) → 1 ≤ g → 1 ≤ h → 1 ≤ v → v ≤ n → 1 ≤ u → u ≤ n → cell n g v ≡ cell n h u → (g ≡ h) × (v ≡ u)
+cell-apart : (n g v h u : ℕ) → 1 ≤ g → 1 ≤ h → 1 ≤ v → v ≤ n → 1 ≤ u → u ≤ n → cell n g v ≡ cell n h u → (g ≡ h) × (v ≡ u)
 unfolding cell
 cell-apart n g v h u lg lh lv uv lu uu e = byOrder g h
     (λ l. absurd (omega (arith, rows-apart n g h lg l)))

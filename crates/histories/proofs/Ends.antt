@@ -1,7 +1,7 @@
 -- The family says exactly what leaves each node of an accepted network: at most two principal arcs, a secondary one only beside a single principal one,
 -- so no arc out is left out.
 -- Assumes nothing.
-use mathlib.Core.Path.{_≡_, _∙_}
+use mathlib.Core.Path.{_≡_}
 use mathlib.Core.Logic.{_≢_, inl, inr, _↔_, ⊎-elim}
 use Prim.Native.Nat.{ℕ, _≤_}
 use native.Mathlib.Omega.{arith}
@@ -18,7 +18,7 @@ use Rattle.reconciliation.specs.Costs.{Costs}
 use Rattle.histories.specs.Histories.{Family}
 use Rattle.histories.specs.Families.{firstChild, secondChild, otherChild, outBy, PrincipalEnd, SecondaryEnd}
 use Rattle.histories.specs.Accepted.{Accepted}
-use Rattle.histories.proofs.Clauses.{out-two, out-mixed, out-one, byOut}
+use Rattle.histories.proofs.Outs.{out-two, out-mixed, out-one, byOut}
 use Rattle.histories.proofs.Accepted.{Whole, out-at, node-of}
 use Rattle.histories.proofs.Small.{has-first, only-first, first-or-second}
 

@@ -139,7 +139,7 @@ module _ (F : Family) where
     unfolding depth
     enough g v = omega (arith, height-le v)
 
-    pub least-at-most : {g v : ℕ} (h : History F g v) → AtMost (cost F h) (least F g v)
+    least-at-most : {g v : ℕ} (h : History F g v) → AtMost (cost F h) (least F g v)
     unfolding least
     least-at-most {g} {v} h = complete (suc (F .genes + F .nodes)) (enough g v) h
 

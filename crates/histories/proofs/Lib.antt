@@ -3,7 +3,7 @@ pub mod Least
 pub mod Bound
 pub mod Words
 pub mod Cells
-pub mod Clauses
+pub mod Outs
 pub mod Filling
 pub mod Sizes
 pub mod Accepted

@@ -22,12 +22,12 @@ use Rattle.histories.specs.Histories.{History, rest, duplicate, speciate
 use Rattle.histories.specs.Families.{next, firstChild, secondChild, otherChild, outBy, familyOf}
 use Rattle.histories.specs.Accepted.{Accepted}
 use Rattle.histories.proofs.Least.{overall-at-most}
-use Rattle.histories.proofs.Clauses.{out-leaf, out-two, out-mixed, out-one}
+use Rattle.histories.proofs.Outs.{out-leaf, out-two, out-mixed, out-one}
 use Rattle.histories.proofs.Sizes.{size, size-low, size-le, size-splits}
 use Rattle.histories.proofs.Accepted.{Whole, N, out-at, node-of, gene-tip, gene-pair, rank-principal, graded}
 
 -- three that pass are counted
-pub count-three : (n a b c : ℕ) (f : ℕ → Bool) → 1 ≤ a → a < b → b < c → c ≤ n → f a ≡ true → f b ≡ true → f c ≡ true → 3 ≤ count n f
+count-three : (n a b c : ℕ) (f : ℕ → Bool) → 1 ≤ a → a < b → b < c → c ≤ n → f a ≡ true → f b ≡ true → f c ≡ true → 3 ≤ count n f
 count-three n a b c f la ab bc uc fa fb fc = omega (
   arith,
   count-two n a b but la (omega arith) (omega arith) (omega arith) (λ e. omega arith) (keeps a fa (λ e. omega arith)) (keeps b fb (λ e. omega arith)),
@@ -99,13 +99,13 @@ module _ (L : NodeLines) (K : GeneLines) (G : GeneTree) (C : Costs) (ok : Accept
     unfolding firstChild
     first = has-first (L .size) (L .principal) p x few lx ux e
 
-    only : x₂ ≡ 0 → x ≡ x₁
-    unfolding firstChild secondChild
-    only = only-first (L .size) (L .principal) p x few lx ux e
-
     second : x ≢ x₁ → x ≡ x₂
     unfolding firstChild secondChild
     second = first-or-second (L .size) (L .principal) p x few lx ux e
+
+    only : x₂ ≡ 0 → x ≡ x₁
+    unfolding firstChild secondChild
+    only = only-first (L .size) (L .principal) p x few lx ux e
 
     -- down one of two
     lose : x₂ ≢ 0 → (i : History F g p) × (cost F i ≡ C .loss + cost F h)

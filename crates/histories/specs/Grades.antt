@@ -35,7 +35,7 @@ pub record Limits (F : Family) : Type 0 where
   pub transfer : F .transfer ≤ 99
   pub loss : F .loss ≤ 99
 
--- the nodes of a network in an order in which each comes after its parents: node v is at place v, and no place from 1 on is empty
+-- the nodes of a network in an order in which each comes after its parents: `order i` is the node at place i, `place v` the place of node v
 pub record Order (N : Network) (order : ℕ → ℕ) : Type 0 where
   pub place : ℕ → ℕ
   pub place-low : (v : ℕ) → Node N v → 1 ≤ place v
@@ -46,7 +46,7 @@ pub record Order (N : Network) (order : ℕ → ℕ) : Type 0 where
   pub principal : (v : ℕ) → Node N v → N .principal v ≢ 0 → place (N .principal v) < place v
   pub secondary : (v : ℕ) → Node N v → N .secondary v ≢ 0 → place (N .secondary v) < place v
 
--- such an order as filling the table takes it, from the last place down: arcs out lead to higher places
+-- such an order as the table is filled by, from the last place down: the arcs out of the node at place i lead to higher places
 pub record Schedule (F : Family) (order : ℕ → ℕ) : Type 0 where
   pub place : ℕ → ℕ
   pub place-low : (v : ℕ) → 1 ≤ v → v ≤ F .nodes → 1 ≤ place v

@@ -19,11 +19,11 @@ use Rattle.histories.specs.Words.{costOf, cell}
 use Rattle.histories.specs.Rows.{row, Cell}
 use Rattle.histories.specs.Families.{outBy, familyOf}
 use Rattle.histories.proofs.Cells.{cell-in, row-costs}
-use Rattle.histories.proofs.Clauses.{out-two, out-mixed, out-one}
+use Rattle.histories.proofs.Outs.{out-two, out-mixed, out-one}
 use Rattle.histories.proofs.Accepted.{gene-tip, gene-pair}
 use Rattle.histories.proofs.Filling.{turn-low, turn-high, stepping-least, own-cells, child-cells, partly-more, kept-more, kept-none, partly-start, partly-end, rows-none}
 use Rattle.arcs.specs.Arcs.{order, first, second, other}
-use Rattle.cell_costs.specs.declared.Row.{Row}
+use Rattle.whole_network.specs.declared.Row.{Row}
 use Rattle.cell_costs.specs.Costs.{Readable, Ends, Children, tipCost, innerCost, tipIn, innerIn}
 use Rattle.whole_network.specs.Stages.{familyIn, Filling, RowOf, InnerRow, RowsIn, PartlyIn, KeptIn}
 
@@ -74,7 +74,7 @@ module _ {h : Header} {lines genes arcs s : List ℕ} {r : Row} {i v : ℕ} (S :
   unfolding familyOf nodesIn geneTree
   node-low = turn-low (S .prepared) (S .room) (R .low) (R .high) part li ui here
 
-  pub node-high : v ≤ n
+  node-high : v ≤ n
   unfolding familyOf nodesIn geneTree
   node-high = turn-high (S .prepared) (S .room) (R .low) (R .high) part li ui here
 

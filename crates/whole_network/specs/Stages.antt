@@ -16,7 +16,7 @@ use Rattle.histories.specs.Accepted.{Accepted}
 use Rattle.histories.specs.Grades.{Prepared}
 use Rattle.histories.specs.Rows.{Rows, Partly, Kept}
 use Rattle.arcs.specs.Arcs.{order, first, second, other}
-use Rattle.cell_costs.specs.declared.Row.{Row}
+use Rattle.whole_network.specs.declared.Row.{Row}
 
 -- the gene family of a sheet
 abbrev pub familyIn : Header → (lines genes : List ℕ) → Family

@@ -1,14 +1,21 @@
 // The network as a whole: the least cost over all histories, for each gene and starting node.
 use arcs::Arcs;
-use cell_costs::Row;
+use layout::Header;
 use layout::genes::Genes;
 use layout::lines::Lines;
-use layout::Header;
-ghost use mathlib.Core.Path.{_≡_};
 ghost use Prim.Native.Nat.{_-_, _*_, _≤_};
 ghost use lib.ListN.{length};
 ghost use Rattle.histories.specs.Promise.{WholeNetwork};
 ghost use Rattle.whole_network.specs.Stages.{familyIn, AcceptedIn, Filling, TipRow, InnerRow, RowsIn, PartlyIn, KeptIn};
+
+// A gene's row: where it begins, of a leaf gene its species, and of an inner gene where its children's rows begin.
+struct Row {
+    gene: usize,
+    start: usize,
+    species: usize,
+    left: usize,
+    right: usize,
+}
 
 // The next word of the row of a leaf gene: at place i of the order.
 fn tip_cell(
@@ -26,9 +33,9 @@ fn tip_cell(
     ensures { λ _. ⌜ KeptIn h (now (lines .entry)) (now (genes .entry)) (now (scratch .entry)) (now (scratch .exit)) ⌝ }
 {
     let v = arcs::order(arcs, i);
-    let w = cell_costs::tip_word(h, row, v, lines, arcs, scratch);
-    let at = row.start + (v - 1);
-    scratch[at] = w;
+    let g = row.start;
+    let c = cell_costs::tip_cost(h, &scratch[g..], row.species, v, lines, arcs);
+    scratch[g + (v - 1)] = cell_costs::clipped(c);
 }
 
 // The next word of the row of an inner gene.
@@ -47,20 +54,15 @@ fn inner_cell(
     ensures { λ _. ⌜ KeptIn h (now (lines .entry)) (now (genes .entry)) (now (scratch .entry)) (now (scratch .exit)) ⌝ }
 {
     let v = arcs::order(arcs, i);
-    let w = cell_costs::inner_word(h, row, v, arcs, scratch);
-    let at = row.start + (v - 1);
-    scratch[at] = w;
+    let a = row.left;
+    let b = row.right;
+    let g = row.start;
+    let c = cell_costs::inner_cost(h, &scratch[a..], &scratch[b..], &scratch[g..], v, arcs);
+    scratch[g + (v - 1)] = cell_costs::clipped(c);
 }
 
 // The row of a leaf gene, from the last node of the order, for arcs out lead to later ones.
-fn fill_tip_row(
-    h: Header,
-    row: Row,
-    lines: &Lines,
-    genes: &Genes,
-    arcs: &Arcs,
-    scratch: &mut [u32],
-)
+fn fill_tip_row(h: Header, row: Row, lines: &Lines, genes: &Genes, arcs: &Arcs, scratch: &mut [u32])
     requires { ⌜ Filling h (now lines) (now genes) (now arcs) (now scratch) × TipRow h (now lines) (now genes) row ⌝ }
     requires { ⌜ RowsIn h (now lines) (now genes) (now scratch) (row .gene) ⌝ }
     ensures { λ _. ⌜ RowsIn h (now (lines .entry)) (now (genes .entry)) (now (scratch .exit)) (row .gene - 1) ⌝ }
@@ -95,14 +97,7 @@ fn fill_inner_row(
 }
 
 // The row of gene g. What depends on the gene alone is read here, once for all nodes.
-fn fill_row(
-    h: Header,
-    g: usize,
-    lines: &Lines,
-    genes: &Genes,
-    arcs: &Arcs,
-    scratch: &mut [u32],
-)
+fn fill_row(h: Header, g: usize, lines: &Lines, genes: &Genes, arcs: &Arcs, scratch: &mut [u32])
     requires { ⌜ Filling h (now lines) (now genes) (now arcs) (now scratch) × (1 ≤ g) × (g ≤ h .genes) × RowsIn h (now lines) (now genes) (now scratch) g ⌝ }
     ensures { λ _. ⌜ RowsIn h (now (lines .entry)) (now (genes .entry)) (now (scratch .exit)) (g - 1) ⌝ }
     ensures { λ _. ⌜ KeptIn h (now (lines .entry)) (now (genes .entry)) (now (scratch .entry)) (now (scratch .exit)) ⌝ }
@@ -111,14 +106,26 @@ fn fill_row(
     let a = layout::genes::left(genes, g);
     if a == 0 {
         let species = layout::lines::gene_species(lines, h.nodes, g);
-        let tip = Row { gene: g, start: start, species: species, left: 0, right: 0 };
+        let tip = Row {
+            gene: g,
+            start: start,
+            species: species,
+            left: 0,
+            right: 0,
+        };
         fill_tip_row(h, tip, lines, genes, arcs, scratch);
         return;
     }
     let left = (a - 1) * h.nodes;
     let b = layout::genes::right(genes, g);
     let right = (b - 1) * h.nodes;
-    let inner = Row { gene: g, start: start, species: 0, left: left, right: right };
+    let inner = Row {
+        gene: g,
+        start: start,
+        species: 0,
+        left: left,
+        right: right,
+    };
     fill_inner_row(h, inner, lines, genes, arcs, scratch);
 }
 

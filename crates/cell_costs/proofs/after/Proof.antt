@@ -6,22 +6,22 @@ use Rattle.cell_costs.proofs.after.Statement.{statement}
 use Rattle.cell_costs.proofs.after.Tie as tie
 
 sub-term : tie.Need-sub-term
-sub-term c = search needs
+sub-term c = c .before .pre .1 .node-low
 
 mul-term : tie.Need-mul-term
 mul-term c = search needs
 
 shared-slice-read-term : tie.Need-shared-slice-read-term
-shared-slice-read-term c = search needs
+shared-slice-read-term c = c .before .before .pre .1 .inside
 
 term-requires : tie.Need-term-requires
-term-requires c κs = search needs
+term-requires c κs = tt
 
 add-result : tie.Need-add-result
 add-result c = search needs
 
 returns : tie.Need-returns
-returns c = search (needs, then-at)
+returns c = then-at _ (c .before .before .before .pre .0) _ _ _ (c .before .before .before .pre .1) (c .term .ensures .0)
 
 pub after-spec : {M : Type 1} → statement M
 after-spec =

@@ -7,7 +7,7 @@ use Rattle.cell_costs.proofs.clipped.Statement.{statement}
 use Rattle.cell_costs.proofs.clipped.Tie as tie
 
 wide-requires : tie.Need-wide-requires
-wide-requires c κs = search needs
+wide-requires c κs = tt
 
 cast-result : tie.Need-cast-result
 cast-result c = search needs

@@ -17,7 +17,7 @@ abbrev μ-loop : tie.MeasureT-loop
 μ-loop n scratch r₀ start₀ r start = n - start
 
 wide-requires : tie.Need-wide-requires Inv-loop μ-loop
-wide-requires c κs = search needs
+wide-requires c κs = tt
 
 loop-holds : tie.Need-loop-holds Inv-loop μ-loop
 loop-holds c = search (needs, over-loop)
@@ -29,10 +29,10 @@ shared-slice-read-term : tie.Need-shared-slice-read-term Inv-loop μ-loop
 shared-slice-read-term c = search needs
 
 term-requires : tie.Need-term-requires Inv-loop μ-loop
-term-requires c κs = search needs
+term-requires c κs = tt
 
 lesser-requires : tie.Need-lesser-requires Inv-loop μ-loop
-lesser-requires c κs = search needs
+lesser-requires c κs = tt
 
 add-start : tie.Need-add-start Inv-loop μ-loop
 add-start c = search needs
@@ -44,7 +44,7 @@ loop-again : tie.Need-loop-again Inv-loop μ-loop
 loop-again c = search (needs, over-loop)
 
 clipped-requires : tie.Need-clipped-requires Inv-loop μ-loop
-clipped-requires c κs = search needs
+clipped-requires c κs = tt
 
 returns : tie.Need-returns Inv-loop μ-loop
 returns c = search (needs, over-loop)

@@ -5,12 +5,11 @@ use native.Mathlib.Omega.{arith}
 use Rattle.finite.proofs.Tests.{is-same, not-same}
 use Rattle.histories.specs.Histories.{resting}
 use Rattle.cell_costs.proofs.Sums.{sum-none, sum-some}
-use borrow.Author.Needs.{needs}
 use Rattle.cell_costs.proofs.rest.Statement.{statement}
 use Rattle.cell_costs.proofs.rest.Tie as tie
 
 wide-requires : tie.Need-wide-requires
-wide-requires c κs = search needs
+wide-requires c κs = tt
 
 returns : tie.Need-returns
 unfolding resting

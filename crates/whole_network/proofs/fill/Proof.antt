@@ -3,7 +3,6 @@
 use mathlib.Core.Path.{refl}
 use Rattle.tables.specs.Columns.{blank}
 use Rattle.whole_network.proofs.Ready.{limits, sound, ready, row-within, kept-promise}
-use borrow.Author.Needs.{needs}
 use Rattle.whole_network.proofs.fill.Statement.{statement}
 use Rattle.whole_network.proofs.fill.Tie as tie
 

@@ -19,7 +19,7 @@ loop-holds : tie.Need-loop-holds Inv-loop μ-loop
 loop-holds c = (omega arith, rows-begun _ _ _ _, kept-none _ _)
 
 fill-row-requires : tie.Need-fill-row-requires Inv-loop μ-loop
-fill-row-requires c κs = (filling-on (c .before .before .before .before .pre) (c .before .before .loop .inv .2), c .before .loop-test .taken, c .before .before .loop .inv .0, c .before .before .loop .inv .1)
+fill-row-requires c κs = (filling-on (c .before .before .before .before .pre) (c .before .before .loop .inv .2), omega (arith, c .before .loop-test .taken), c .before .before .loop .inv .0, c .before .before .loop .inv .1)
 
 sub-g : tie.Need-sub-g Inv-loop μ-loop
 sub-g c = omega (arith, c .before .before .before .before .loop-test .taken)
