@@ -1,7 +1,7 @@
 -- An admitted sheet under the LCA mapping: its network is sound and its gene tree rooted and seated, so the theorem of the optimum applies to it, and
 -- every number that the report writes is within the limits of the header. A species is borne by a leaf alone, so leaf genes sit at leaves.
 -- Assumes nothing.
-use mathlib.Core.Path.{_≡_, refl, sym, _∙_, ap}
+use mathlib.Core.Path.{_≡_, refl, sym, _∙_}
 use mathlib.Core.Logic.{_≢_}
 use Prim.Native.Nat.{ℕ, _+_, _*_, _≤_, _<_}
 use native.Mathlib.Omega.{arith}
@@ -11,7 +11,6 @@ use Rattle.topology.specs.Switchings.{Switching, parent}
 use Rattle.topology.specs.Components.{component, members}
 use Rattle.topology.specs.Lines.{NodeLines, GeneLines, network}
 use Rattle.topology.proofs.Above.{parent-cases, byNode}
-use Rattle.topology.proofs.Components.{component-top, top-root, component-node}
 use Rattle.shapes.specs.Refusals.{Shape, IsLeaf, reticulation, inner, leaf}
 use Rattle.network.specs.Accepted.{AcceptedNetwork}
 use Rattle.network.proofs.Acceptance.{accepted}
@@ -25,7 +24,7 @@ use Rattle.displayed.proofs.Model.{place-node, event-small, transfers-le, losse
 use Rattle.gene_tree.specs.Refusals.{Gene}
 use Rattle.gene_tree.specs.Genes.{geneTreeOf, SeatAt}
 use Rattle.gene_tree.proofs.Refusals.{accept-12, accept-13}
-use Rattle.gene_tree.proofs.Genes.{count-at} 
+use Rattle.gene_tree.proofs.Genes.{count-at}
 use Rattle.gene_tree.proofs.Genes as T
 use Rattle.optimum.specs.Optimum.{trials, chosen, Optimal}
 use Rattle.optimum.proofs.Optimum.{chosen-optimal}
@@ -130,10 +129,6 @@ module _ (L : NodeLines) (K : GeneLines) (C : Costs) (ok : Admitted L K C) where
 
   pub trials-small : trials N < 1000000
   trials-small = omega (arith, trials-few)
-
-  -- the top of a node's component is a node
-  pub component-small : (v : ℕ) → Node N v → (1 ≤ component N v) × (component N v ≤ L .size)
-  component-small v k = let c = component-node N sound v k in (c .low, omega (arith, size-is, c .high))
 
   -- the parent of any number under a switching is a node, or 0
   pub parent-small : (σ : Switching) (v : ℕ) → parent N σ v ≤ 127

@@ -1,7 +1,7 @@
 -- A sheet that no refusal turns away: its lines and costs.
 -- Assumes nothing.
 use mathlib.Core.Path.{_≡_}
-use Prim.Native.Nat.{ℕ, _≤_}
+use Prim.Native.Nat.{_≤_}
 use Rattle.finite.specs.Refusals.{verdict}
 use Rattle.topology.specs.Lines.{NodeLines, GeneLines}
 use Rattle.reconciliation.specs.Costs.{Costs}

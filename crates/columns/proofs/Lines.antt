@@ -1,14 +1,14 @@
 -- Reading a line finds one just where the bytes are the fields of five numbers and a line feed: by induction on the fields that are left
 -- (`rest-is`), each of which is a number's columns or is malformed. Then the turns of the loops that read and write a line.
 -- Assumes nothing.
-use Prim.Native.Nat.{ℕ, zero, suc, min, _+_, _-_, _*_, _≤_, _<_}
+use Prim.Native.Nat.{ℕ, zero, suc, _+_, _-_, _*_, _≤_, _<_}
 use mathlib.Core.Path.{_≡_, refl, sym, ap, _∙_}
 use mathlib.Core.Bool.{true, false}
 use mathlib.Core.List.{List, [], _∷_, _++_, append-assoc, append-nil}
-use lib.ListN.{length, getD, take, drop, set, replicate, length-append, length-take, length-drop, List·getD-eq-default}
+use lib.ListN.{length, getD, take, drop, set, replicate, length-append, List·getD-eq-default}
 use lib.Seq.{take-nil, take-take, drop-drop, getD-take, getD-drop, take-add, take-at, drop-at, drop-cons, set-at, append-snoc}
 use lib.Dec.{eqb, lit<}
-use native.Mathlib.Nat.{add-zero, zero-add, suc-add, min-le-right}
+use native.Mathlib.Nat.{add-zero, zero-add, suc-add}
 use native.Mathlib.Numerals.{add-one}
 use native.Mathlib.Omega.{arith}
 use borrow.Author.Tests.{eq-eqb, ne-eqb, eqb-true, eqb-false}
@@ -162,12 +162,6 @@ unfolding lineOf
 one-line ms ns sm sn e = one-fields fieldCount ms ns sm sn
     (sym (take-at (fieldsOf fieldCount ms) (10 ∷ []) (6 * fieldCount) (length-fields fieldCount ms)) ∙ ap (λ (x : List ℕ). take (6 * fieldCount) x) e
     ∙ take-at (fieldsOf fieldCount ns) (10 ∷ []) (6 * fieldCount) (length-fields fieldCount ns))
-
--- a line that is found stands within the text
-pub line-room : (s : List ℕ) (at : ℕ) (ns : List ℕ) → take lineLength (drop at s) ≡ lineOf ns → at + lineLength ≤ length s
-line-room s at ns t =
-    let l : min lineLength (length s - at) ≡ lineLength = simp (length-take, length-drop, length-line) at (ap length t) in
-    omega (arith, min-le-right lineLength (length s - at))
 
 -- how a line ends after its last field
 ended : {c : Cursor} → After c ≡ Malformed → ⊥

@@ -113,11 +113,6 @@ module _ (T : Displayed) (ok : Tree T) (G : GeneTree) (t : Rooted G) (s : Seated
       sixty-four g false l = omega (arith, mul-zero (T .size + 1))
 
   module _ (C : Costs) (dd : C .duplication ≤ 99) (dt : C .transfer ≤ 99) (dl : C .loss ≤ 99) where
-    -- no cost needs more than 32 bits
-    pub cost-le : lcaCost T G C ≤ 99 * 63 + 99 * (127 * 127) + 99 * (127 * 127)
-    unfolding lcaCost
-    cost-le = omega (arith, mul-le-mul dd duplications-few, mul-le-mul dt transfers-few, mul-le-mul dl losses-under)
-
     -- where no on arc is a transfer the cost is below a million
     pub plain-cost : Forked T → ((c : ℕ) → T .lateral c ≡ false) → lcaCost T G C ≤ 99 * 63 + 99 * (126 * 64)
     unfolding lcaCost transferCount transfers

@@ -8,7 +8,7 @@ use native.Mathlib.Omega.{arith}
 use Rattle.finite.specs.Range.{sum}
 use Rattle.finite.proofs.Cases.{byBool, byEq, clash}
 use Rattle.finite.proofs.Tests.{is-same, not-same}
-use Rattle.finite.proofs.Sum.{sum-same, sum-zero, sum-bound, sum-point}
+use Rattle.finite.proofs.Sum.{sum-zero, sum-bound, sum-point}
 use Rattle.topology.proofs.Climbing.{climb-ind, over-self, over-not, over-zero, over-anti, along-stop, along-go, along-over}
 use Rattle.reconciliation.specs.GeneTrees.{GeneTree, Rooted}
 use Rattle.reconciliation.proofs.Genes.{child-gene, parent-gene}

@@ -3,10 +3,8 @@
 use Prim.Native.Nat.{ℕ, zero, suc, _+_, _≤_, _<_}
 use mathlib.Core.Path.{_≡_, refl, sym, _∙_, fun-ext}
 use mathlib.Core.List.{List}
-use lib.ListN.{length, getD, set, length-set, replicate, length-replicate, getD-replicate, List·getD-eq-default}
+use lib.ListN.{length, set, length-set, replicate, length-replicate, getD-replicate, List·getD-eq-default}
 use lib.Seq.{getD-set-same, getD-set-other, ext-getD}
-use mir.Val.{Fits}
-use mir.Syntax.{w32, w64}
 use native.Mathlib.Omega.{arith}
 use native.Mathlib.Numerals.{add-one}
 use Rattle.finite.specs.Tests.{under}
@@ -85,17 +83,6 @@ zeros-at v = byLess v 128 (λ l. getD-replicate {A = ℕ} 128 v 0 0 l) (λ l. Li
 pub held-in : (k : ℕ) (f : ℕ → ℕ) → k ≤ 127 → (v : ℕ) → 1 ≤ v → v ≤ k → at (filled k zeros f) v ≡ f v
 held-in k f few v l u = filled-in k zeros f v l u (omega (arith, zeros-long))
 
-pub held-low : (k b : ℕ) (f : ℕ → ℕ) → k ≤ 127 → ((v : ℕ) → 1 ≤ v → v ≤ k → f v ≤ b) → (v : ℕ) → at (filled k zeros f) v ≤ b
-held-low k b f few h v = byEq v 0 (λ e. rw e (omega (arith, filled-zero k zeros f, zeros-at 0)))
-    (λ d. byLess k v (λ l. omega (arith, filled-out k zeros f v l, zeros-at v)) (λ l. omega (arith, held-in k f few v (omega arith) l, h v (omega arith) l)))
-
-pub zeros-filled : (n : ℕ) (f : ℕ → ℕ) → n ≤ 127 → at (filled n zeros f) ≡ within n f
-zeros-filled n f l = filled-within n zeros f (omega (arith, zeros-long)) zeros-at
-
--- the only table that holds f at 1..n, 0 at 0 and above n
-pub zeros-ext : (n : ℕ) (m : List ℕ) (f : ℕ → ℕ) → n ≤ 127 → length m ≡ 128 → ((v : ℕ) → 1 ≤ v → v ≤ n → at m v ≡ f v) → ((v : ℕ) → n < v → at m v ≡ 0) → at m 0 ≡ 0 → m ≡ filled n zeros f
-zeros-ext n m f few long inside outside none = filled-ext n zeros m f (omega (arith, zeros-long)) (long ∙ sym zeros-long) inside (λ v l. outside v l ∙ sym (zeros-at v)) (none ∙ sym (zeros-at 0))
-
 -- the turns of a loop that fills a table from the front
 pub filled-none : (l : List ℕ) (f : ℕ → ℕ) → l ≡ filled 0 l f
 unfolding filled
@@ -107,9 +94,3 @@ filled-more k l m f x e q = rw (e, q, add-one)
 
 pub filled-end : (n v : ℕ) (l m : List ℕ) (f : ℕ → ℕ) → v ≤ n → n ≤ v → m ≡ filled v l f → m ≡ filled n l f
 filled-end n v l m f a b h = let e : v ≡ n = omega arith in rw e at h
-
-pub ruleset fill-loop = (filled-none, filled-more, filled-end)
-
--- an entry of a table of `u32` fits a `usize`: closes the cast of `xs[i] as usize`
-pub entry-fits : (l : List ℕ) (i : ℕ) → ((k : ℕ) → Fits w32 (getD l k 0)) → Fits w64 (getD l i 0)
-entry-fits l i h = omega (arith, h i)

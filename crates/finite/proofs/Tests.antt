@@ -178,8 +178,6 @@ pub ruleset test-laws = (and-no-l, and-no-r, and-yes, or-yes-l, or-yes-r, or-no,
 
 pub ruleset rest-laws = (or-rest, and-rest, not-rest, and-no-l, and-no-r, and-yes, or-yes-l, or-yes-r, or-no, not-yes, not-no, is-same, not-same, is-under, not-under)
 
-pub ruleset pick-laws = (pick-yes, pick-no, told, told-not-yes, told-not-no)
-
 -- the lowest bit of a number, as a test and as a number
 pub tally-odd : (x : ℕ) → tally (same (x % 2) 1) ≡ x % 2
 tally-odd x = byEq (x % 2) 1 (λ e. rw (is-same e) (sym e)) (λ d. rw (not-same d) (omega arith))

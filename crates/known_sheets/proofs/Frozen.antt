@@ -6,13 +6,13 @@ use mathlib.Core.Bool.{Bool, true, false}
 use mathlib.Core.List.{List, _++_}
 use Prim.Native.Nat.{ℕ, zero, suc, _+_, _≤_}
 use native.Mathlib.Omega.{arith}
-use lib.ListN.{length, replicate, length-replicate}
+use lib.ListN.{replicate, length-replicate}
 use Rattle.finite.specs.Tests.{same, tally}
 use Rattle.finite.specs.Tables.{at, filled, within}
 use Rattle.finite.specs.Refusals.{verdict}
 use Rattle.finite.proofs.Tables.{filled-in, filled-within}
 use Rattle.finite.proofs.Cases.{byEq, byLess}
-use Rattle.topology.specs.Networks.{Network, Reticulation, isReticulation, reticulations}
+use Rattle.topology.specs.Networks.{Reticulation, isReticulation, reticulations}
 use Rattle.topology.specs.Switchings.{Switching, onSecondary, parent}
 use Rattle.topology.specs.Components.{component, members}
 use Rattle.topology.specs.Lines.{NodeLines, GeneLines, network}
@@ -67,13 +67,13 @@ frozenContents s =
 pub contents-frozen : (s : List ℕ) → frozenContents s ≡ contentsOf s
 unfolding frozenContents contentsOf nodeLines geneLines
 contents-frozen s = rw (
-      listed-is (nodes s) (λ v. cell s v 1),
-      listed-is (nodes s) (λ v. cell s v 2),
-      listed-is (nodes s) (λ v. cell s v 3),
-      listed-is (nodes s) (λ v. cell s v 4),
-      listed-is (genes s) (λ g. cell s (nodes s + g) 1),
-      listed-is (genes s) (λ g. cell s (nodes s + g) 2),
-    )
+  listed-is (nodes s) (λ v. cell s v 1),
+  listed-is (nodes s) (λ v. cell s v 2),
+  listed-is (nodes s) (λ v. cell s v 3),
+  listed-is (nodes s) (λ v. cell s v 4),
+  listed-is (genes s) (λ g. cell s (nodes s + g) 1),
+  listed-is (genes s) (λ g. cell s (nodes s + g) 2),
+)
 
 -- the refusal of a sheet with these contents
 unfoldable pub refusalWith : List ℕ → (bytes words : ℕ) → Contents → ℕ

@@ -1,6 +1,6 @@
 -- The header of a sheet and its limits (01, "The sheet").
 -- Assumes nothing.
-use Prim.Native.Nat.{ℕ, _≤_}
+use Prim.Native.Nat.{_≤_}
 use Rattle.reconciliation.specs.Costs.{Costs}
 use Rattle.layout.specs.declared.Header.{Header}
 

@@ -3,36 +3,35 @@
 -- Assumes nothing.
 use mathlib.Core.Path.{_≡_, refl, sym, _∙_, ap}
 use mathlib.Core.Logic.{_≢_, _⊎_, inl, inr}
-use mathlib.Core.Bool.{Bool, cond, _||_}
+use mathlib.Core.Bool.{_||_}
 use mathlib.Core.List.{List}
 use Prim.Native.Nat.{ℕ, _+_, _-_, _*_, _≤_, _<_}
 use lib.ListN.{length}
 use native.Mathlib.Omega.{arith}
 use native.Mathlib.Nat.{mul-le-mul, mul-add}
 use Rattle.finite.specs.Tests.{same, tally}
-use Rattle.finite.specs.Range.{sum, count}
+use Rattle.finite.specs.Range.{count}
 use Rattle.finite.proofs.Cases.{byEq}
 use Rattle.finite.proofs.Tests.{is-same, not-same}
-use Rattle.finite.proofs.Sum.{sum-zero-range, down-start, down-turn, down-fits, down-done}
+use Rattle.finite.proofs.Sum.{down-start, down-turn, down-fits, down-done}
 use Rattle.tables.specs.Columns.{entry, written}
 use Rattle.tables.proofs.Columns.{long, write-here, write-row, write-column}
 use Rattle.layout.specs.Results as R
 use Rattle.layout.specs.Genes.{geneTree}
 use Rattle.layout.specs.Genes as L
-use Rattle.layout.specs.Headers.{Limits, costs}
+use Rattle.layout.specs.Headers.{costs}
 use Rattle.layout.specs.declared.Header.{Header}
-use Rattle.reconciliation.specs.GeneTrees.{GeneTree, Rooted}
-use Rattle.reconciliation.specs.Costs.{Costs}
+use Rattle.reconciliation.specs.GeneTrees.{GeneTree}
 use Rattle.reconciliation.proofs.Genes.{parent-gene}
 use Rattle.displayed.specs.Displayed.{Displayed, NodeOf, Tree, common}
 use Rattle.displayed.specs.Tabled.{treeIn}
-use Rattle.displayed.specs.Mapping.{SeatedIn, place, event, isDuplication, sends, transfers, losses, duplicationCount, transferCount, lossCount, lcaCost}
+use Rattle.displayed.specs.Mapping.{place, event, isDuplication, transfers, losses, duplicationCount, transferCount, lossCount, lcaCost}
 use Rattle.displayed.proofs.Places.{place-leaf, place-inner, place-node}
 use Rattle.displayed.proofs.Children.{root-transfers, root-losses, child-transfers, child-losses}
 use Rattle.displayed.proofs.Events.{event-leaf, event-inner, duplication-inner}
 use Rattle.displayed.proofs.Gathering.{by-parents}
 use Rattle.displayed.proofs.Bounds.{duplications-few, transfers-few, losses-under}
-use Rattle.mapping.specs.Climbs.{treeOf, Climbable}
+use Rattle.mapping.specs.Climbs.{treeOf}
 use Rattle.mapping.specs.Pairs.{eventBy, Paired}
 use Rattle.mapping.specs.Evaluation.{Family, Lent, Seats, seatedBy, sentTo, notedBy, Room, raisedBy, Counted, totalOf, scoreOf, ofChildren, Upto, Evaluated}
 use Rattle.mapping.specs.declared.Steps.{Steps}

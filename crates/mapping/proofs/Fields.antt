@@ -1,7 +1,7 @@
 -- The structs that the small functions make, field by field: each is the definition's once its tests and readings are settled.
 -- Assumes nothing.
-use mathlib.Core.Path.{_≡_, refl, sym, _∙_, ap}
-use mathlib.Core.Bool.{true, false}
+use mathlib.Core.Path.{_≡_, sym, _∙_, ap}
+use mathlib.Core.Bool.{true}
 use mathlib.Core.List.{List}
 use Prim.Native.Nat.{ℕ, _+_, _-_, _*_, _≤_}
 use native.Mathlib.Omega.{arith}
@@ -9,12 +9,11 @@ use native.Mathlib.Nat.{mul-le-mul}
 use lib.Dec.{eqb}
 use Rattle.finite.specs.Tests.{same}
 use Rattle.finite.proofs.Tests.{is-same, not-same}
-use Rattle.layout.specs.Tree.{up, lateral, arcs}
-use Rattle.layout.specs.Headers.{Limits}
+use Rattle.layout.specs.Tree.{up, lateral}
 use Rattle.layout.specs.declared.Header.{Header}
 use Rattle.mapping.specs.Climbs.{forkIn, climbedBy}
 use Rattle.mapping.specs.Pairs.{sentBy, passedBy}
-use Rattle.mapping.specs.Evaluation.{raisedBy, Counted, totalOf}
+use Rattle.mapping.specs.Evaluation.{raisedBy, Counted}
 use Rattle.mapping.specs.declared.Way.{Way}
 use Rattle.mapping.specs.declared.Steps.{Steps}
 use Rattle.mapping.specs.declared.Pair.{Pair}

@@ -1,26 +1,25 @@
 -- The turns of the loop in which two climbers meet, over the table. What the climbers have added up and what lies ahead of them make up their whole ways,
 -- so that nothing added up is more than a whole way, which has no more arcs than there are nodes.
 -- Assumes nothing.
-use mathlib.Core.Path.{_≡_, refl, sym, _∙_, ap}
+use mathlib.Core.Path.{_≡_, sym, _∙_, ap}
 use mathlib.Core.Logic.{_≢_}
 use mathlib.Core.Bool.{true}
 use mathlib.Core.List.{List}
-use Prim.Native.Nat.{ℕ, _+_, _*_, _≤_, _<_}
+use Prim.Native.Nat.{ℕ, _+_, _≤_, _<_}
 use native.Mathlib.Omega.{arith}
 use Rattle.finite.specs.Tests.{same, tally}
 use Rattle.finite.proofs.Tests.{tally-le}
 use Rattle.topology.proofs.Climbing.{meet-over-left, meet-over-right}
 use Rattle.layout.specs.Tree.{up, lateral, rank, arcs}
-use Rattle.displayed.specs.Displayed.{Displayed, NodeOf, Tree, reaches, common, way, departure}
+use Rattle.displayed.specs.Displayed.{Displayed, NodeOf, Tree, reaches, common, way}
 use Rattle.displayed.specs.Arcs.{move, mark}
 use Rattle.displayed.specs.Tabled.{treeIn}
 use Rattle.displayed.proofs.Trees.{common-node}
 use Rattle.displayed.proofs.Ways.{way-le}
 use Rattle.displayed.proofs.Tabled.{read-up, read-rank, read-lateral, read-forks}
 use Rattle.displayed.proofs.Meeting as M
-use Rattle.mapping.specs.Climbs.{forkIn, treeOf, Climbable, Light, climbedBy, IsWay, Meeting}
+use Rattle.mapping.specs.Climbs.{forkIn, treeOf, Climbable, Light, climbedBy, Meeting}
 use Rattle.mapping.specs.declared.Way.{Way}
-use Rattle.mapping.specs.declared.Met.{Met}
 
 pub fork-le : (t : List ℕ) (v : ℕ) → forkIn t v ≤ 1
 unfolding forkIn

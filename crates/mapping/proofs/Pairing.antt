@@ -7,14 +7,14 @@ use mathlib.Core.Bool.{Bool, true, false, cond, _||_}
 use mathlib.Core.List.{List}
 use Prim.Native.Nat.{ℕ, _-_, _≤_}
 use native.Mathlib.Omega.{arith}
-use Rattle.finite.specs.Tests.{same, tally}
+use Rattle.finite.specs.Tests.{same}
 use Rattle.finite.proofs.Cases.{byEq, byBool, clash}
-use Rattle.finite.proofs.Tests.{is-same, not-same, same-is, and-yes}
+use Rattle.finite.proofs.Tests.{is-same, not-same, and-yes}
 use Rattle.topology.proofs.Climbing.{meet-spec, meet-over-left, meet-over-right}
 use Rattle.layout.specs.Tree.{up, lateral}
-use Rattle.displayed.specs.Displayed.{Displayed, NodeOf, Tree, reaches, common, way, departure}
+use Rattle.displayed.specs.Displayed.{Displayed, NodeOf, Tree, reaches, common, departure}
 use Rattle.displayed.specs.Mapping.{sends}
-use Rattle.displayed.specs.Arcs.{move, mark}
+use Rattle.displayed.specs.Arcs.{mark}
 use Rattle.displayed.proofs.Trees.{common-node, not-below}
 use Rattle.displayed.proofs.Departures.{depart-self, departing, departure-node, depart-le}
 use Rattle.displayed.proofs.Events.{Sends, sends-is, is-sends}
@@ -159,7 +159,7 @@ module _ (n : ℕ) (t : List ℕ) (K : Climbable n t) (x y : ℕ) (kx : NodeOf (
     pub lasts-few : (met .left .last ≤ 127) × (met .right .last ≤ 127)
     lasts-few = (rw (i .left .last) (last-few x kx over-x), rw (i .right .last) (last-few y ky over-y))
 
-    module _ (sent : Bool) (event : ℕ) (es : sent ≡ sentBy t (met .left .last) (met .right .last)) (ee : event ≡ eventBy sent (met .node) x y) where
+    module _ (sent : Bool) (event : ℕ) (ee : event ≡ eventBy sent (met .node) x y) where
       here : same event 2 ≡ (same x b || same y b)
       here = rw (ee, i .node) (stays-or-not sent b x y)
 
@@ -182,9 +182,9 @@ module _ (n : ℕ) (t : List ℕ) (K : Climbable n t) (x y : ℕ) (kx : NodeOf (
       pub passable-right : Passable t event (met .right)
       passable-right = passable y ky over-y (met .right) event (i .right) (λ d. not-right (apart d))
 
-      pub paired : (l r : Steps) → l ≡ passedBy t event (met .left) → r ≡ passedBy t event (met .right)
+      pub paired : sent ≡ sentBy t (met .left .last) (met .right .last) → (l r : Steps) → l ≡ passedBy t event (met .left) → r ≡ passedBy t event (met .right)
           → Paired T x y (record { node = met .node; event = event; left = l; right = r })
-      paired l r el er = record {
+      paired es l r el er = record {
         node = i .node;
         event = ee ∙ rw (es, i .left .last, i .right .last, i .node) event-last;
         left = passes x kx over-x (met .left) event _ l (i .left) here not-left el;

@@ -4,7 +4,7 @@
 use mathlib.Core.Path.{_≡_, refl}
 use mathlib.Core.Logic.{_≢_}
 use mathlib.Core.Bool.{true, false, not}
-use mathlib.Core.List.{[]}
+use mathlib.Core.List.{List, []}
 use Prim.Native.Nat.{ℕ, _≤_, _<_}
 use native.Mathlib.Omega.{arith}
 use Rattle.finite.specs.Tests.{same}
@@ -14,10 +14,12 @@ use Rattle.finite.proofs.Cases.{byEq, byLess, clash}
 use Rattle.finite.proofs.Tests.{is-same, same-is, not-same, or-no-l, or-no-r, not-false, tally-le}
 use Rattle.finite.proofs.Every.{is-some, not-every, some-none}
 use Rattle.finite.proofs.Count.{count-some, count-find}
+use Rattle.finite.proofs.Tables.{within-zero, within-out}
 use Rattle.finite.proofs.Refusals.{verdict-none}
 use Rattle.topology.specs.Networks.{Node, Sound}
 use Rattle.topology.specs.Lines.{NodeLines, rankOf, network}
 use Rattle.topology.proofs.Lines.{node-of, node-high}
+use Rattle.layout.specs.Lines.{principal, secondary, nodesIn}
 use Rattle.shapes.specs.Refusals.{refusal8, IsLeaf, Shape, reticulation, inner, leaf, shapelessAt, refusal9, Refusal9, leaf-without, other-with, two-alike, childAt, reticulationIfChild, onlyReticulationsAt, refusal10, Child, by-principal, by-secondary, afterEight, shapeRefusals}
 use Rattle.shapes.proofs.Readings.{shape-at, reading-9, child-is, is-child}
 use Rattle.network.specs.Refusals.{refusal6, OneRoot, Refusal6, principal-above, secondary-above, root-secondary, refusal7, principal-not-below, secondary-not-equal, afterSix, networkRefusals}
@@ -157,3 +159,13 @@ module _ (L : NodeLines) where
         where
           no-9 : ¬ (Refusal9 L)
           no-9 r = clash (reading-9 L .1 r) (z .nine)
+
+-- in the lines of an array a number that is no node has no parents
+pub no-others : (n : ℕ) (l : List ℕ) → NoOthers (nodesIn n l)
+unfolding nodesIn
+no-others n l = record {
+  zero-principal = within-zero n (principal l);
+  zero-secondary = within-zero n (secondary l);
+  out-principal = within-out n (principal l);
+  out-secondary = within-out n (secondary l);
+}

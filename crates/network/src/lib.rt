@@ -1,5 +1,5 @@
 // The verdict on a species network: refusals 6 to 10, on the lines of the sheet. Each refusal that does not apply hands on to the next.
-pub mod parents;
+mod parents;
 
 use layout::lines::Lines;
 use parents::seven;

@@ -1,7 +1,7 @@
 -- What an answer tells: a refusal the first that applies, a report that none does. So a report fits the result, and a refusal has a small number.
 -- Assumes nothing.
-use Prim.Native.Nat.{ℕ, _+_, _≤_}
-use mathlib.Core.Path.{_≡_, refl, sym, ap, _∙_}
+use Prim.Native.Nat.{ℕ, _≤_}
+use mathlib.Core.Path.{_≡_, sym, ap, _∙_}
 use mathlib.Core.Logic.{_≢_}
 use mathlib.Core.List.{List, [], _∷_}
 use lib.ListN.{length, drop, length-append}

@@ -1,14 +1,14 @@
 -- The outcome of each way out of the call. A refusal leaves both buffers as they were; the tests before it failed, so it is the first that applies; and a
 -- sheet that none applies to has its report written.
 -- Assumes nothing.
-use Prim.Native.Nat.{ℕ, suc, _+_, _*_, _≤_, _<_}
+use Prim.Native.Nat.{ℕ, _+_, _*_, _≤_, _<_}
 use mathlib.Core.Path.{_≡_, refl, sym, ap, _∙_, subst, fun-ext}
 use mathlib.Core.Logic.{_≢_}
 use mathlib.Core.Bool.{Bool, true, false, not, _&&_}
 use mathlib.Core.List.{List}
 use lib.ListN.{length}
 use native.Mathlib.Omega.{arith}
-use Rattle.finite.specs.Tests.{same, under}
+use Rattle.finite.specs.Tests.{same}
 use Rattle.finite.specs.Range.{every}
 use Rattle.finite.specs.Tables.{at, within}
 use Rattle.finite.specs.Refusals.{verdict}
@@ -17,13 +17,12 @@ use Rattle.finite.proofs.Cases.{byBool, byEq, byLess}
 use Rattle.finite.proofs.Tests.{not-same, and-no-r, told-not-yes, told-not-no, not-false}
 use Rattle.columns.specs.Lines.{fieldCount}
 use Rattle.tables.specs.Columns.{spaced}
-use Rattle.topology.specs.Lines.{NodeLines, GeneLines, network}
+use Rattle.topology.specs.Lines.{network}
 use Rattle.layout.specs.Lines.{stamp, nodesIn, genesIn}
 use Rattle.layout.specs.Headers.{costs, Limits}
 use Rattle.layout.specs.declared.Header.{Header}
 use Rattle.topology.specs.Networks.{Sound}
 use Rattle.network.specs.Refusals.{networkRefusals}
-use Rattle.network.specs.Accepted.{NoOthers}
 use Rattle.network.proofs.Acceptance as Acceptance
 use Rattle.components.specs.Filling.{Dated}
 use Rattle.sheet.specs.Sheets.{headerIn, nodes, genes, lineNo, limits, refuses3, refuses4, refuses5, headerOf, whole, nodeLine, geneLine, cell, cellsOf, nodeNumbered, geneNumbered}
@@ -153,8 +152,10 @@ module _ (s : List ℕ) (h : Header) (k : HeaderIs s h) where
 
     stamps-small : Dated (nodes s) cells
     unfolding spaced
-    stamps-small = record { small = λ v a l. let e : at cells (fieldCount * v + 3) ≡ stamp cells v = ap (at cells) (omega arith) in
-        omega (arith, e, cell-is v 3 (omega arith) (omega arith), cell-small s v 3) }
+    stamps-small = record {
+      small = λ v a l. let e : at cells (fieldCount * v + 3) ≡ stamp cells v = ap (at cells) (omega arith) in
+          omega (arith, e, cell-is v 3 (omega arith) (omega arith), cell-small s v 3);
+    }
 
     pub sized : (b w : ℕ) → leastBytes ≤ b → leastWords ≤ w → Sized h cells b w
     sized b w lb lw = record { limits = k .limited; stamps = subst (λ (x : Header). Dated (x .nodes) cells) (sym (k .header)) stamps-small; room = lb; space = lw }
@@ -178,16 +179,6 @@ bytes-refused s d u lw l = refuses _ 2 (contentsOf s) d u (refusal-2 s (length d
 pub header-outcome : (s d u : List ℕ) (k : ℕ) → headerRefused k ≡ headerOf s → leastBytes ≤ length d → leastWords ≤ length u → OutcomeOf s d d u u (Refused k)
 header-outcome s d u k e lb lw = let h = header-refused s k e in refuses _ k (contentsOf s) d u (h .1 (length d) (length u) lb lw) (h .0)
 
--- lines of an array have no numbers but the nodes'
-pub no-others-in : (n : ℕ) (l : List ℕ) → NoOthers (nodesIn n l)
-unfolding nodesIn
-no-others-in n l = record {
-  zero-principal = within-zero _ _;
-  zero-secondary = within-zero _ _;
-  out-principal = λ v o. within-out _ _ v o;
-  out-secondary = λ v o. within-out _ _ v o;
-}
-
--- so a network that passes 6 to 10 is sound
+-- a network that passes 6 to 10 is sound
 pub sound-in : (n : ℕ) (l : List ℕ) → verdict (networkRefusals (nodesIn n l)) ≡ 0 → Sound (network (nodesIn n l))
-sound-in n l e = Acceptance.accepted (nodesIn n l) (no-others-in n l) e .sound
+sound-in n l e = Acceptance.accepted (nodesIn n l) (Acceptance.no-others n l) e .sound

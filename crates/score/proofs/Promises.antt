@@ -2,7 +2,7 @@
 -- sheet that none applies to is one of which the theorems on the optimum and on histories speak.
 -- Assumes nothing.
 use Prim.Native.Nat.{ℕ, _≤_}
-use mathlib.Core.Path.{_≡_, refl, sym, ap, _∙_}
+use mathlib.Core.Path.{_≡_, sym, _∙_}
 use mathlib.Core.Logic.{_≢_}
 use mathlib.Core.List.{List, _++_}
 use lib.ListN.{length, getD}
@@ -11,9 +11,9 @@ use Rattle.finite.specs.Refusals.{First, NoneApplies}
 use Rattle.finite.proofs.Tests.{not-false}
 use Rattle.finite.proofs.Tables.{within-zero, within-out}
 use Rattle.finite.proofs.Refusals.{told-first, told-none, first-told, first-some, none-told}
-use Rattle.topology.specs.Lines.{NodeLines, network}
+use Rattle.topology.specs.Lines.{network}
 use Rattle.layout.specs.Headers.{costs, Limits}
-use Rattle.sheet.specs.Sheets.{headerIn, lineNo, refuses4}
+use Rattle.sheet.specs.Sheets.{headerIn, refuses4}
 use Rattle.sheet.proofs.Limits.{limits-is}
 use Rattle.network.specs.Accepted.{NoOthers}
 use Rattle.displayed.specs.Model.{lcaCost}
@@ -28,10 +28,9 @@ use Rattle.acceptance.specs.Admitted.{Admitted}
 use Rattle.acceptance.proofs.Mapped.{sound, optimal}
 use Rattle.acceptance.proofs.Whole.{whole-accepted}
 use Rattle.score.specs.declared.Answer.{Answer}
-use Rattle.score.specs.declared.Answer.the-variants.{Report, Refused}
 use Rattle.score.specs.Families.{Contents, nodeLines, geneLines, contentsOf, networkIn, geneTreeIn, familyIn, reported}
 use Rattle.score.specs.Refusals.{refusals, refusal}
-use Rattle.score.specs.Outcome.{reportIn, Outcome, Reported, Promise}
+use Rattle.score.specs.Outcome.{Outcome, Reported, Promise}
 use Rattle.score.proofs.Answers.{answer-refused, refused-answer, answer-report, report-answer}
 use Rattle.score.proofs.Refusals.{all-tells, text-passes, curators-pass, none-passes}
 

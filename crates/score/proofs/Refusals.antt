@@ -2,16 +2,16 @@
 -- verdict of the whole list.
 -- Assumes nothing.
 use Prim.Native.Nat.{ℕ, _≤_, _<_}
-use mathlib.Core.Path.{_≡_, refl, sym, _∙_}
+use mathlib.Core.Path.{_≡_, sym, _∙_}
 use mathlib.Core.Logic.{_≢_, _↔_}
 use mathlib.Core.Bool.{true, false}
-use mathlib.Core.List.{List, [], _∷_, _++_}
+use mathlib.Core.List.{List, [], _++_}
 use native.Mathlib.Omega.{arith}
 use Rattle.finite.specs.Tests.{under}
-use Rattle.finite.specs.Refusals.{Refusal, verdict, AllTell, no-more, one-more}
+use Rattle.finite.specs.Refusals.{verdict, AllTell, no-more, one-more}
 use Rattle.finite.proofs.Tests.{is-under, under-is, not-under}
 use Rattle.finite.proofs.Refusals.{tell, verdict-here, verdict-later, verdict-none, verdict-first, verdict-second, both-none, all-tell}
-use Rattle.topology.specs.Lines.{NodeLines, network}
+use Rattle.topology.specs.Lines.{network}
 use Rattle.topology.specs.Networks.{Sound}
 use Rattle.sheet.specs.Sheets.{refuses3, refuses4, refuses5}
 use Rattle.sheet.proofs.Refusals.{refuses-3, refuses-4, refuses-5}

@@ -1,7 +1,7 @@
 -- The report of a family that no refusal applies to. Its network and gene tree are what the search asks for; the last state of the search is the chosen
 -- switching, so the tables that are written hold the report's numbers, each of which has a field.
 -- Assumes nothing.
-use Prim.Native.Nat.{ℕ, _+_, _*_, _≤_, _<_}
+use Prim.Native.Nat.{ℕ, _*_, _≤_, _<_}
 use mathlib.Core.Path.{_≡_, refl, sym, ap, _∙_, fun-ext}
 use mathlib.Core.Bool.{false, not}
 use mathlib.Core.List.{List, _++_}
@@ -22,21 +22,21 @@ use Rattle.topology.proofs.Above.{reticulation-node}
 use Rattle.topology.proofs.Components.{component-node}
 use Rattle.layout.specs.Lines.{nodesIn, genesIn}
 use Rattle.layout.specs.Parts.{top, reticulationCount}
-use Rattle.layout.specs.Tree.{up, lateral, Held}
+use Rattle.layout.specs.Tree.{Held}
 use Rattle.layout.specs.Genes.{geneTree}
 use Rattle.layout.specs.Choices.{best as chosenSetting}
 use Rattle.layout.specs.Headers.{costs}
 use Rattle.layout.specs.declared.Header.{Header}
+use Rattle.network.proofs.Acceptance.{no-others}
 use Rattle.reconciliation.specs.GeneTrees.{GeneTree}
 use Rattle.reconciliation.specs.Costs.{Costs}
 use Rattle.displayed.specs.Model.{place, event, transfers, losses}
 use Rattle.gene_tree.specs.Genes.{geneTreeOf}
 use Rattle.gene_tree.proofs.Genes.{count-at}
 use Rattle.optimum.specs.Optimum.{assembled, chosen, trials, best}
-use Rattle.search.specs.Prepared.{networkOf, genesOf, Prepared, scoreUnder, Reconciled}
+use Rattle.search.specs.Prepared.{Prepared, scoreUnder, Reconciled}
 use Rattle.search.specs.Searched.{Searched}
 use Rattle.search.specs.declared.Found.{Found}
-use Rattle.mapping.specs.declared.Score.{Score}
 use Rattle.histories.specs.Words.{word, words}
 use Rattle.histories.specs.Histories.{overall}
 use Rattle.histories.specs.Families.{familyOf}
@@ -44,7 +44,7 @@ use Rattle.histories.specs.Promise.{WholeNetwork}
 use Rattle.whole_network.specs.Stages.{AcceptedIn}
 use Rattle.whole_network.specs.Stages as W
 use Rattle.acceptance.specs.Admitted.{Admitted}
-use Rattle.acceptance.proofs.Mapped.{sound, rooted, seated, members-few, cost-small, duplications-small, transfers-small, losses-small, trials-small, reticulations-small, component-small, parent-small, place-small, event-few, gene-transfers-small, gene-losses-small}
+use Rattle.acceptance.proofs.Mapped.{sound, rooted, seated, members-few, cost-small, duplications-small, transfers-small, losses-small, trials-small, reticulations-small, parent-small, place-small, event-few, gene-transfers-small, gene-losses-small}
 use Rattle.acceptance.proofs.Whole.{whole-accepted}
 use Rattle.report.specs.declared.Totals.{Totals}
 use Rattle.report.specs.Reports.{SmallTotals, reportLength}
@@ -53,7 +53,6 @@ use Rattle.report.proofs.Writing.{length-report, report-same}
 use Rattle.score.specs.Families.{Contents, networkIn, geneTreeIn, familyIn, reported}
 use Rattle.score.specs.Outcome.{componentCount, totalsIn, reportIn}
 use Rattle.score.specs.Stages.{contentsBy, Sized, Passed, Worked, totalsBy, Written}
-use Rattle.score.proofs.Outcomes.{no-others-in}
 
 -- what is no reticulation is set by no setting
 plain : (N : Network) (r : ℕ) → N .secondary r ≡ 0 → (c y : ℕ) → settingOf N c y r ≡ false
@@ -88,7 +87,7 @@ module _ (h : Header) (lines : List ℕ) (b w : ℕ) (S : Sized h lines b w) (P 
     duplication = S .limits .duplication;
     transfer = S .limits .transfer;
     loss = S .limits .loss;
-    others = no-others-in (h .nodes) lines;
+    others = no-others (h .nodes) lines;
     network = P .network;
     component = P .component;
     genes = P .genes;
@@ -219,20 +218,24 @@ module _ (h : Header) (lines : List ℕ) (b w : ℕ) (S : Sized h lines b w) (P 
         }
 
         pub nodes-small : SmallNodes (h .nodes) tree parts
-        nodes-small = record { each = λ v a l. record {
-          taken = omega (arith, held .ups v, parent-small L K C admitted σ v);
-          second = omega (arith, held .laterals v, tally-le (onSecondary N σ v));
-          top-row = omega (arith, top-at v a l, top-in v a l .high, size-is, S .limits .few-nodes);
-          count = rw (top-at v a l) (omega (arith, count-in (component N v) (top-in v a l), members-few L K C admitted (component N v)));
-        } }
+        nodes-small = record {
+          each = λ v a l. record {
+            taken = omega (arith, held .ups v, parent-small L K C admitted σ v);
+            second = omega (arith, held .laterals v, tally-le (onSecondary N σ v));
+            top-row = omega (arith, top-at v a l, top-in v a l .high, size-is, S .limits .few-nodes);
+            count = rw (top-at v a l) (omega (arith, count-in (component N v) (top-in v a l), members-few L K C admitted (component N v)));
+          };
+        }
 
         pub genes-small : SmallGenes (h .genes) results
-        genes-small = record { each = λ g a l. record {
-          place = omega (arith, mapped .places g a (gene-in g l), place-small L K C admitted σ g a (gene-low g l));
-          event = omega (arith, mapped .events g a (gene-in g l), event-few L K C admitted σ g a (gene-low g l));
-          transfers = omega (arith, mapped .ways g a (gene-in g l), gene-transfers-small L K C admitted σ g a (gene-low g l));
-          losses = omega (arith, mapped .lost g a (gene-in g l), gene-losses-small L K C admitted σ g a (gene-low g l));
-        } }
+        genes-small = record {
+          each = λ g a l. record {
+            place = omega (arith, mapped .places g a (gene-in g l), place-small L K C admitted σ g a (gene-low g l));
+            event = omega (arith, mapped .events g a (gene-in g l), event-few L K C admitted σ g a (gene-low g l));
+            transfers = omega (arith, mapped .ways g a (gene-in g l), gene-transfers-small L K C admitted σ g a (gene-low g l));
+            losses = omega (arith, mapped .lost g a (gene-in g l), gene-losses-small L K C admitted σ g a (gene-low g l));
+          };
+        }
 
         pub report-room : reportLength (h .nodes) (h .genes) (reticulationIn (h .nodes) lines) ≤ b
         unfolding reportLength

@@ -1,9 +1,9 @@
 // The call that scores a family sheet: the refusals in the order of checking, then the report and the table of the whole network.
+use layout::Header;
 use layout::genes::Genes;
 use layout::lines::Lines;
 use layout::parts;
 use layout::parts::Parts;
-use layout::Header;
 use report::Totals;
 use search::Found;
 use sheet::Headed;
@@ -19,8 +19,6 @@ ghost use Rattle.layout.specs.Parts.{reticulationCount, Parted};
 ghost use Rattle.topology.specs.Networks.{isReticulation};
 ghost use Rattle.topology.specs.Lines.{network};
 ghost use Rattle.network.specs.Refusals.{networkRefusals};
-
-
 ghost use Rattle.score.specs.Outcome.{Promise};
 ghost use Rattle.score.specs.Stages.{contentsBy, Lined, Sized, Curated, Passed, Worked, totalsBy, Written, OutcomeBy, OutcomeOf};
 
@@ -110,7 +108,15 @@ fn write_worked(
     let mut choices = [0u32; 512];
     let mut tree = [0u32; 512];
     let mut results = [0u32; 512];
-    let found = search::run(h, lines, parts, genes, &mut choices, &mut tree, &mut results);
+    let found = search::run(
+        h,
+        lines,
+        parts,
+        genes,
+        &mut choices,
+        &mut tree,
+        &mut results,
+    );
     let whole = whole_network::fill(h, lines, genes, scratch);
     let t = totals(h, lines, parts, found, whole);
     report::write_report(result, t, h.nodes, h.genes, lines, &tree, parts, &results)

@@ -4,20 +4,17 @@
 use mathlib.Core.Path.{_≡_, refl, sym, _∙_, ap}
 use mathlib.Core.Logic.{_≢_, _⊎_, inl, inr}
 use mathlib.Core.List.{List}
-use Prim.Native.Nat.{ℕ, _+_, _≤_, _<_}
+use Prim.Native.Nat.{ℕ, _≤_}
 use native.Mathlib.Omega.{arith}
 use Rattle.finite.specs.Tests.{same, tally}
-use Rattle.finite.specs.Range.{count, children}
 use Rattle.finite.proofs.Cases.{byEq}
 use Rattle.finite.proofs.Tests.{not-same, tally-le}
-use Rattle.topology.specs.Networks.{Network, Node, Sound}
-use Rattle.topology.specs.Switchings.{Switching, onSecondary, parent, onArcs, height}
+use Rattle.topology.specs.Networks.{Network, Node}
+use Rattle.topology.specs.Switchings.{Switching, onSecondary, onArcs, height}
 use Rattle.topology.specs.Lines.{network}
 use Rattle.topology.proofs.Above.{parent-cases, byNode}
 use Rattle.layout.specs.Lines.{nodesIn}
-use Rattle.layout.specs.Tree.{up, lateral, rank, arcs, Held}
-use Rattle.layout.specs.Results as R
-use Rattle.layout.specs.Genes.{geneTree}
+use Rattle.layout.specs.Tree.{up, lateral, rank, Held}
 use Rattle.layout.specs.Headers.{costs}
 use Rattle.layout.specs.declared.Header.{Header}
 use Rattle.reconciliation.specs.GeneTrees.{GeneTree}
@@ -25,13 +22,12 @@ use Rattle.displayed.specs.Displayed.{Displayed, NodeOf}
 use Rattle.displayed.specs.Displays.{switched, display, base, twoArcs}
 use Rattle.displayed.specs.Tabled.{treeIn, Holds}
 use Rattle.displayed.specs.Model as D
-use Rattle.displayed.proofs.Model.{tree-is, tree-seated, table-tree, table-seated, table-place, table-event, table-transfers, table-losses, table-duplicationCount, table-transferCount, table-lossCount, table-cost}
+use Rattle.displayed.proofs.Model.{table-tree, table-seated, table-place, table-event, table-transfers, table-losses, table-duplicationCount, table-transferCount, table-lossCount, table-cost}
 use Rattle.displayed.proofs.Displays.{no-third}
-use Rattle.optimum.specs.Optimum.{assembled}
 use Rattle.mapping.specs.Climbs.{forkIn, treeOf, Climbable}
-use Rattle.mapping.specs.Evaluation.{Family, Lent, scoreOf, Evaluated}
+use Rattle.mapping.specs.Evaluation.{Family, scoreOf, Evaluated}
 use Rattle.mapping.specs.declared.Score.{Score}
-use Rattle.search.specs.Prepared.{networkOf, genesOf, Prepared, Reconciled, Assembled, scoreUnder}
+use Rattle.search.specs.Prepared.{networkOf, genesOf, Prepared, Reconciled, scoreUnder}
 
 module _ (h : Header) (lines parts genes : List ℕ) (P : Prepared h lines parts genes) (σ : Switching) (t : List ℕ) (H : Held (networkOf h lines) σ t) where
   abbrev N : Network

@@ -3,7 +3,7 @@
 -- Assumes nothing.
 use mathlib.Core.Path.{_≡_, refl, sym, _∙_, ap, fun-ext}
 use mathlib.Core.Logic.{_≢_}
-use mathlib.Core.Bool.{Bool, true, false}
+use mathlib.Core.Bool.{true, false}
 use mathlib.Core.List.{List}
 use Prim.Native.Nat.{ℕ, suc, _+_, _≤_, _<_}
 use native.Mathlib.Numerals.{add-one}
@@ -13,7 +13,7 @@ use Rattle.finite.specs.Tests.{under}
 use Rattle.finite.specs.Range.{sum}
 use Rattle.finite.proofs.Cases.{byBool, byEq, byLess}
 use Rattle.finite.proofs.Tests.{is-same, not-same, is-under, not-under}
-use Rattle.finite.proofs.Sum.{sum-more, sum-range-le, sum-zero-range}
+use Rattle.finite.proofs.Sum.{sum-more, sum-range-le}
 use Rattle.finite.proofs.Count.{count-le}
 use Rattle.finite.proofs.Least.{least-none}
 use Rattle.tables.specs.Columns.{written, blank}
@@ -33,7 +33,7 @@ use Rattle.optimum.proofs.Search.{score-take, score-keep, search-start, search-
 use Rattle.optimum.proofs.Bounds.{trials-le}
 use Rattle.switching.proofs.Settings.{alone-agree}
 use Rattle.search.specs.declared.Stage.{Stage}
-use Rattle.search.specs.Steps.{takes, Settling, settledStage, settledChoices, SettledBy, Finished, Reached, Awaiting, Last}
+use Rattle.search.specs.Steps.{takes, Settling, settledStage, settledChoices, SettledBy, Finished, Reached, Last}
 
 -- scoring a component's first setting, number 0, leaves it at 0
 lesser-itself : (f : ℕ → ℕ) (b : ℕ) → lesser f b b ≡ b

@@ -1,6 +1,6 @@
 -- The loops of the search over what is prepared: the facts of crate optimum's machine and of the mapping, as the functions ask for them.
 -- Assumes nothing.
-use mathlib.Core.Path.{_≡_, refl, sym, _∙_, ap}
+use mathlib.Core.Path.{_≡_, refl, _∙_, ap}
 use mathlib.Core.List.{List}
 use Prim.Native.Nat.{ℕ, _+_, _≤_, _<_}
 use native.Mathlib.Omega.{arith}
@@ -12,7 +12,7 @@ use Rattle.layout.specs.Tree.{Held}
 use Rattle.layout.specs.Choices.{best}
 use Rattle.layout.specs.Headers.{costs}
 use Rattle.layout.specs.declared.Header.{Header}
-use Rattle.topology.specs.Networks.{Network, Node, Sound}
+use Rattle.topology.specs.Networks.{Network}
 use Rattle.topology.specs.Switchings.{Switching}
 use Rattle.topology.specs.Components.{members}
 use Rattle.topology.specs.Lines.{network}
@@ -29,7 +29,6 @@ use Rattle.search.specs.Prepared.{networkOf, genesOf, Prepared, Working,
 use Rattle.search.specs.Steps.{Settling, SettledBy, Finished, Reached, Awaiting, Last}
 use Rattle.search.specs.Searched.{Searched}
 use Rattle.search.specs.declared.Stage.{Stage}
-use Rattle.search.specs.declared.Found.{Found}
 use Rattle.search.proofs.Assembling.{family, score-is, genes-are}
 use Rattle.search.proofs.Steps as S
 

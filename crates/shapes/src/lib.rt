@@ -1,7 +1,7 @@
 // The verdict on what the nodes of a species network are: refusals 8, 9 and 10, on the lines of the sheet. Each refusal that does not apply hands on to
 // the next.
-pub mod counts;
-pub mod refusals;
+mod counts;
+mod refusals;
 
 use layout::lines::Lines;
 use refusals::eight;

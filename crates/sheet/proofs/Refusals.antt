@@ -2,7 +2,7 @@
 -- (`line-is` of columns), and a line has only one reading (`same-cells`), so each test over the lines is the statement about each line.
 -- Assumes nothing.
 use Prim.Native.Nat.{ℕ, _+_, _*_, _≤_, _<_}
-use mathlib.Core.Path.{_≡_, refl, sym, ap, _∙_}
+use mathlib.Core.Path.{_≡_, refl, sym, _∙_}
 use mathlib.Core.Logic.{_↔_}
 use mathlib.Core.Bool.{Bool, true, false, _&&_}
 use mathlib.Core.List.{List}
@@ -20,7 +20,6 @@ use Rattle.columns.specs.declared.End.the-variants.{After, Malformed}
 use Rattle.columns.proofs.Lines.{line-is, small-read, one-line}
 use Rattle.sheet.specs.Sheets.{found, lineNo, isLine, cell, headerIn, nodes, genes, limits, refuses3, refuses4, whole, nodeLine, geneLine, refuses5, Line, NodeLine, GeneLine, WellFormed, cellsOf, nodeNumbered, geneNumbered}
 use Rattle.sheet.proofs.Limits.{limits-is, is-limits}
-use Rattle.sheet.proofs.Storing.{cells-at}
 use Rattle.sheet.proofs.Reading.{node-numbered, gene-numbered}
 
 -- a line that is found is the line of its cells

@@ -1,8 +1,8 @@
 // A family sheet: from bytes to the numbers of its lines, and the refusals 3, 4 and 5.
 use columns::Cursor;
 use columns::End;
-use layout::lines::Lines;
 use layout::Header;
+use layout::lines::Lines;
 ghost use mathlib.Core.Path.{_≡_};
 ghost use mathlib.Core.Bool.{_&&_};
 ghost use Prim.Native.Nat.{_+_, _*_, _≤_, _<_};

@@ -9,12 +9,11 @@ use native.Mathlib.Omega.{arith}
 use Rattle.finite.specs.Tests.{same}
 use Rattle.finite.proofs.Cases.{byEq}
 use Rattle.topology.specs.Networks.{Network, Node, Sound, Reticulation}
-use Rattle.topology.specs.Switchings.{Switching, onSecondary, parent}
+use Rattle.topology.specs.Switchings.{Switching}
 use Rattle.topology.specs.Components.{component, members, indexOf, membersAfter, settingOf}
 use Rattle.topology.specs.Lines.{network}
 use Rattle.topology.proofs.Above.{reticulation-node}
 use Rattle.topology.proofs.Components.{component-node, is-member}
-use Rattle.reconciliation.proofs.Agreement.{parent-same, secondary-same}
 use Rattle.layout.specs.Lines.{secondary, nodesIn}
 use Rattle.layout.specs.Parts.{top, reticulationCount, index, Parted}
 use Rattle.layout.specs.Tree.{Held}
@@ -111,12 +110,3 @@ module _ (N : Network) (ok : Sound N) (settings : ℕ → ℕ) (c x : ℕ) (here
   alone-agree r d = byEq (component N r) c
       (λ e. rw (e, here))
       (λ q. rw (others (component N r) q) (setting-principal N ok (component N r) r ∙ sym (setting-outside N ok c x r d q)))
-
-  pub alone-parent : parent N (assembled N settings) ≡ parent N (settingOf N c x)
-  alone-parent = parent-same N (assembled N settings) (settingOf N c x) alone-agree
-
-  pub alone-secondary : onSecondary N (assembled N settings) ≡ onSecondary N (settingOf N c x)
-  alone-secondary = secondary-same N (assembled N settings) (settingOf N c x) alone-agree
-
-  pub alone-held : {t : List ℕ} → Held N (assembled N settings) t → Held N (settingOf N c x) t
-  alone-held h = held-agree alone-agree h

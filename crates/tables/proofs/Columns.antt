@@ -10,7 +10,6 @@ use lib.Seq.{getD-set-same, getD-set-other, ext-getD}
 use native.Mathlib.Omega.{arith}
 use native.Mathlib.Nat.{mul-le-mul}
 use native.Mathlib.Numerals.{add-one}
-use Rattle.finite.specs.Tests.{under}
 use Rattle.finite.specs.Tables.{within}
 use Rattle.finite.proofs.Cases.{byEq, byLess}
 use Rattle.finite.proofs.Tests.{is-under, not-under}
@@ -99,12 +98,6 @@ pub column-same : (k n : ℕ) (t : List ℕ) (f g : ℕ → ℕ) → ((v : ℕ) 
 unfolding column
 column-same k zero t f g e = refl
 column-same k (suc n) t f g e = rw (column-same k n t f g (λ v a b. e v a (omega arith)), e (suc n) (omega arith) (omega arith))
-
--- every row of a filled column is below what bounds the old rows and the new
-pub column-low : (k n : ℕ) (t : List ℕ) (f : ℕ → ℕ) (b : ℕ) → n < 128 → 128 * k + n < length t → ((v : ℕ) → entry t k v ≤ b) → ((v : ℕ) → 1 ≤ v → v ≤ n → f v ≤ b) → (v : ℕ)
-    → entry (column k n t f) k v ≤ b
-column-low k n t f b l q old new v = byEq v 0 (λ e. rw e (omega (arith, column-zero k t f n k l, old 0)))
-    (λ d. byLess n v (λ a. omega (arith, column-out k t f n v k l a, old v)) (λ a. omega (arith, column-in k t f n v l (omega arith) a q, new v (omega arith) a)))
 
 -- tables with the same entries are the same
 pub table-ext : (t s : List ℕ) → length t ≡ 512 → length s ≡ 512 → ((k v : ℕ) → k < 4 → v < 128 → entry t k v ≡ entry s k v) → t ≡ s

@@ -11,7 +11,7 @@ use Rattle.finite.proofs.Tests.{is-same, not-same}
 use Rattle.topology.specs.Climbing.{Falls}
 use Rattle.topology.specs.Networks.{Network, Node, Sound, Reticulation, isReticulation}
 use Rattle.topology.specs.Switchings.{Switching, allPrincipal, onSecondary, parent, height, above, Above, here, step, lca}
-use Rattle.topology.proofs.Climbing.{climb-ind, over-self, over-up, over-not, over-zero, over-trans, over-low, over-anti, over-child, meet-spec}
+use Rattle.topology.proofs.Climbing.{climb-ind, over-self, over-up, over-not, over-zero, over-trans, over-low, over-anti, meet-spec}
 
 module _ (N : Network) where
   open Network N using (size, principal, secondary, rank)
@@ -23,10 +23,6 @@ module _ (N : Network) where
   pub parent-plain : (σ : Switching) (x : ℕ) → secondary x ≡ 0 → parent N σ x ≡ principal x
   unfolding parent onSecondary isReticulation
   parent-plain σ x e = rw (is-same e, and-false (σ x))
-
-  pub off-plain : (σ : Switching) (x : ℕ) → secondary x ≡ 0 → onSecondary N σ x ≡ false
-  unfolding onSecondary isReticulation
-  off-plain σ x e = rw (is-same e, and-false (σ x))
 
   pub parent-cases : {A : Type 0} (σ : Switching) (x : ℕ) → (parent N σ x ≡ principal x → A) → (Reticulation N x → parent N σ x ≡ secondary x → A) → A
   unfolding parent onSecondary isReticulation
@@ -126,10 +122,6 @@ module _ (N : Network) (ok : Sound N) where
   pub above-anti : (σ : Switching) (v x : ℕ) → above N σ v x ≡ true → above N σ x v ≡ true → v ≡ x
   unfolding above
   above-anti σ = over-anti (height N) (parent N σ) (falls σ)
-
-  pub above-child : (σ : Switching) (v x : ℕ) → above N σ v x ≡ true → v ≢ x → (c : ℕ) × (c ≢ 0) × (parent N σ c ≡ v) × (above N σ c x ≡ true)
-  unfolding above
-  above-child σ = over-child (height N) (parent N σ) (falls σ)
 
   pub lca-spec : (σ : Switching) (v x y : ℕ) → v ≢ 0 → (above N σ v x && above N σ v y) ≡ above N σ v (lca N σ x y)
   unfolding above lca

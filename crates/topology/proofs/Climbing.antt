@@ -190,10 +190,6 @@ unfolding seekIn
 seek-in up stop m b zero x l = l
 seek-in up stop m b (suc k) x l = byBool (stop x) (λ t. rw t l) (λ t. rw t (seek-in up stop m b k (up x) (b x)))
 
-pub meet-in : (h up : ℕ → ℕ) (m : ℕ) → ((v : ℕ) → up v < m) → (x y : ℕ) → x < m → meet h up x y < m
-unfolding meet seek
-meet-in h up m b x y l = seek-in up (λ a. over h up a y) m b (h x) x l
-
 -- where two climbs meet is above both, be it 0
 module _ (h up : ℕ → ℕ) (F : Falls h up) where
   over-none : (y : ℕ) → over h up 0 y ≡ true
@@ -210,10 +206,3 @@ module _ (h up : ℕ → ℕ) (F : Falls h up) where
       (rw (meet-zero h up F y) (over-none y))
       (λ x d ih. byBool (over h up x y) (λ t. rw (meet-stop h up F x y t) t)
       (λ t. rw (meet-go h up F x y t) (ih (up x) (F .fall x d)))) x
-
--- marks of 0 or 1 sum to no more than the height
-pub along-small : (h up : ℕ → ℕ) → Falls h up → (f : ℕ → ℕ) (b : ℕ) → ((k : ℕ) → f k ≤ 1) → (x : ℕ) → over h up b x ≡ true → along h up f b x ≤ h x
-along-small h up F f b one = climb-ind h up F (λ x. over h up b x ≡ true → along h up f b x ≤ h x)
-    (λ t. byEq b 0 (λ e. omega (arith, along-stop h up F f b 0 (sym e))) (λ d. clash t (over-zero h up F b d)))
-    (λ x z ih t. byEq x b (λ e. omega (arith, along-stop h up F f b x e))
-    (λ d. omega (arith, along-go h up F f b x t d, one x, F .fall x z, ih (up x) (F .fall x z) (along-over h up F f b x t d))))

@@ -86,9 +86,6 @@ module _ (N : Network) (ok : Sound N) where
       (nearest (component N (secondary r)) r (top-component (secondary r)) (top-reticulation (component N (secondary r)) r (component-node (secondary r) ks) (top-component (secondary r)) d ∙ component-above (secondary r)))
       (nearest (component N r) (secondary r) (top-component r) (sym (top-reticulation (component N r) r (component-node r kr) (top-component r) d) ∙ component-above r))
 
-  pub component-principal : (r : ℕ) → Reticulation N r → component N (principal r) ≡ component N r
-  component-principal r d = sym (component-up r (reticulation-not-top r d))
-
   -- a node that is no top has its parents in its own component; a top has one parent
   pub component-parent : (σ : Switching) (x : ℕ) → isTop N x ≡ false → component N (parent N σ x) ≡ component N x
   component-parent σ x t = parent-cases N σ x (λ e. rw e (sym (component-up x t))) (λ d e. rw e (component-secondary x d))

@@ -6,7 +6,7 @@ use mathlib.Core.Bool.{true, _&&_}
 use Prim.Native.Nat.{ℕ}
 use native.Mathlib.Omega.{arith}
 use Rattle.finite.proofs.Cases.{byEq, clash}
-use Rattle.finite.proofs.Tests.{and-l, and-r}
+use Rattle.finite.proofs.Tests.{and-l}
 use Rattle.topology.specs.Networks.{Network, Node, Sound}
 use Rattle.topology.specs.Switchings.{Switching, parent, above, lca}
 use Rattle.topology.proofs.Above.{parent-cases, node-principal, node-secondary, falls, above-self, above-not, above-zero, network-ind, lca-spec}
@@ -40,9 +40,3 @@ module _ (N : Network) (ok : Sound N) (σ : Switching) where
 
     pub lca-left : above N σ (lca N σ x y) x ≡ true
     lca-left = and-l (above N σ (lca N σ x y) x) (above N σ (lca N σ x y) y) lca-both
-
-    pub lca-right : above N σ (lca N σ x y) y ≡ true
-    lca-right = and-r (above N σ (lca N σ x y) x) (above N σ (lca N σ x y) y) lca-both
-
-    pub lca-node : Node N (lca N σ x y)
-    lca-node = above-node (lca N σ x y) x lca-some kx lca-left

@@ -2,5 +2,4 @@ pub mod Climbing
 pub mod Networks
 pub mod Switchings
 pub mod Components
-pub mod Tables
 pub mod Lines

@@ -1,7 +1,6 @@
 -- `mapping::climb` meets its contract.
 -- Assumes nothing.
 use Rattle.mapping.proofs.Fields.{climbed-is}
-use Rattle.mapping.specs.Climbs.{forkIn, climbedBy}
 use borrow.Author.Needs.{needs}
 use Rattle.mapping.proofs.climb.Statement.{statement}
 use Rattle.mapping.proofs.climb.Tie as tie

@@ -9,10 +9,6 @@ use Rattle.layout.specs.Genes.{geneTree}
 use Prim.Native.Nat.{_≤_}
 use Rattle.mapping.proofs.evaluate.Statement.{statement}
 use Rattle.mapping.proofs.evaluate.Tie as tie
-use Rattle.mapping.proofs.evaluate.Reads as reads
-use Rattle.mapping.proofs.evaluate.Lts as lts
-use Rattle.mapping.proofs.gene.Reads as gene-reads
-use Rattle.mapping.proofs.total.Reads as total-reads
 
 abbrev Inv-loop : tie.InvT-loop
 Inv-loop h t g r₀ s₀ k₀ r s k = (k ≤ h .genes) × Upto (treeOf (h .nodes) t) (geneTree (h .genes) g) (costs h) k r s

@@ -3,14 +3,6 @@ use Rattle.mapping.proofs.Evaluating.{leaf-fits, leaf-turn, inner-fits,
 use borrow.Author.Needs.{needs}
 use Rattle.mapping.proofs.gene.Statement.{statement}
 use Rattle.mapping.proofs.gene.Tie as tie
-use Rattle.mapping.proofs.gene.Reads as reads
-use Rattle.mapping.proofs.gene.Lts as lts
-use Rattle.layout.proofs.genes.leaf.Reads as leaf-reads
-use Rattle.layout.proofs.genes.left.Reads as left-reads
-use Rattle.layout.proofs.genes.right.Reads as right-reads
-use Rattle.mapping.proofs.inner.Reads as inner-reads
-use Rattle.mapping.proofs.raise.Reads as raise-reads
-use Rattle.mapping.proofs.seat.Reads as seat-reads
 
 left-requires : tie.Need-left-requires
 left-requires c κs = search needs

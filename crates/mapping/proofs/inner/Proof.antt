@@ -4,12 +4,6 @@ use Rattle.mapping.proofs.Pairing.{paired-few}
 use borrow.Author.Needs.{needs}
 use Rattle.mapping.proofs.inner.Statement.{statement}
 use Rattle.mapping.proofs.inner.Tie as tie
-use Rattle.mapping.proofs.inner.Reads as reads
-use Rattle.mapping.proofs.inner.Lts as lts
-use Rattle.layout.proofs.results.place.Reads as place-reads
-use Rattle.mapping.proofs.pair_of.Reads as pair-of-reads
-use Rattle.mapping.proofs.seat.Reads as seat-reads
-use Rattle.mapping.proofs.send.Reads as send-reads
 
 place-requires : tie.Need-place-requires
 place-requires c κs = search needs

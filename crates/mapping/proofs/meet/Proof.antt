@@ -4,11 +4,6 @@ use Rattle.mapping.specs.Climbs.{treeOf}
 use Prim.Native.Nat.{_+_}
 use Rattle.mapping.proofs.meet.Statement.{statement}
 use Rattle.mapping.proofs.meet.Tie as tie
-use Rattle.mapping.proofs.meet.Reads as reads
-use Rattle.mapping.proofs.meet.Lts as lts
-use Rattle.layout.proofs.tree.rank.Reads as rank-reads
-use Rattle.layout.proofs.tree.up.Reads as up-reads
-use Rattle.mapping.proofs.climb.Reads as climb-reads
 
 abbrev Inv-loop : tie.InvT-loop
 Inv-loop n t x y a₀ b₀ left₀ right₀ a b left right = Climbing (treeOf n t) x y a b left right
@@ -34,15 +29,15 @@ climb-requires c κs =
 up-requires : tie.Need-up-requires Inv-loop μ-loop
 up-requires c κs = let s = c .before .before .before .before .before .before .pre in let i = c .before .before .before .before .before .loop .inv in node-few _ _ (s .0) _ (left-node _ _ (s .0) _ _ (s .1) (s .2) _ _ _ _ i) .0
 
-loop-less : tie.Need-loop-less Inv-loop μ-loop
-loop-less c =
-    let s = c .before .before .before .before .before .before .before .pre in let i = c .before .before .before .before .before .before .loop .inv in
-    falls-left _ _ (s .0) _ _ (s .1) (s .2) _ _ _ _ i _ _ _ (c .before .before .before .rank2 .ensures) (c .before .before .before .before .rank .ensures) (c .before .before .if1 .taken) (c .before .before .before .before .before .loop-test .taken) (c .up .ensures)
-
 loop-again : tie.Need-loop-again Inv-loop μ-loop
 loop-again c =
     let s = c .before .before .before .before .before .before .before .pre in let i = c .before .before .before .before .before .before .loop .inv in
     climbing-left _ _ (s .0) _ _ (s .1) (s .2) _ _ _ _ i _ _ _ (c .before .before .before .rank2 .ensures) (c .before .before .before .before .rank .ensures) _ (c .before .before .if1 .taken) (c .before .before .before .before .before .loop-test .taken) (c .before .climb .ensures) (c .up .ensures)
+
+loop-less : tie.Need-loop-less Inv-loop μ-loop
+loop-less c =
+    let s = c .before .before .before .before .before .before .before .pre in let i = c .before .before .before .before .before .before .loop .inv in
+    falls-left _ _ (s .0) _ _ (s .1) (s .2) _ _ _ _ i _ _ _ (c .before .before .before .rank2 .ensures) (c .before .before .before .before .rank .ensures) (c .before .before .if1 .taken) (c .before .before .before .before .before .loop-test .taken) (c .up .ensures)
 
 climb-requires-2 : tie.Need-climb-requires-2 Inv-loop μ-loop
 climb-requires-2 c κs =
@@ -53,15 +48,15 @@ climb-requires-2 c κs =
 up-requires-2 : tie.Need-up-requires-2 Inv-loop μ-loop
 up-requires-2 c κs = let s = c .before .before .before .before .before .before .pre in let i = c .before .before .before .before .before .loop .inv in node-few _ _ (s .0) _ (right-node _ _ (s .0) _ _ (s .1) (s .2) _ _ _ _ i) .0
 
-loop-less-2 : tie.Need-loop-less-2 Inv-loop μ-loop
-loop-less-2 c =
-    let s = c .before .before .before .before .before .before .before .pre in let i = c .before .before .before .before .before .before .loop .inv in
-    falls-right _ _ (s .0) _ _ (s .1) (s .2) _ _ _ _ i _ _ _ (c .before .before .before .rank2 .ensures) (c .before .before .before .before .rank .ensures) (c .before .before .if1 .left) (c .up2 .ensures)
-
 loop-again-2 : tie.Need-loop-again-2 Inv-loop μ-loop
 loop-again-2 c =
     let s = c .before .before .before .before .before .before .before .pre in let i = c .before .before .before .before .before .before .loop .inv in
     climbing-right _ _ (s .0) _ _ (s .1) (s .2) _ _ _ _ i _ _ _ (c .before .before .before .rank2 .ensures) (c .before .before .before .before .rank .ensures) _ (c .before .before .if1 .left) (c .before .climb2 .ensures) (c .up2 .ensures)
+
+loop-less-2 : tie.Need-loop-less-2 Inv-loop μ-loop
+loop-less-2 c =
+    let s = c .before .before .before .before .before .before .before .pre in let i = c .before .before .before .before .before .before .loop .inv in
+    falls-right _ _ (s .0) _ _ (s .1) (s .2) _ _ _ _ i _ _ _ (c .before .before .before .rank2 .ensures) (c .before .before .before .before .rank .ensures) (c .before .before .if1 .left) (c .up2 .ensures)
 
 returns : tie.Need-returns Inv-loop μ-loop
 returns c =

@@ -3,18 +3,12 @@ use Rattle.mapping.proofs.Pairing.{lasts-few, passable-left, passable-r
 use borrow.Author.Needs.{needs}
 use Rattle.mapping.proofs.pair_of.Statement.{statement}
 use Rattle.mapping.proofs.pair_of.Tie as tie
-use Rattle.mapping.proofs.pair_of.Reads as reads
-use Rattle.mapping.proofs.pair_of.Lts as lts
-use Rattle.mapping.proofs.event.Reads as event-reads
-use Rattle.mapping.proofs.meet.Reads as meet-reads
-use Rattle.mapping.proofs.sends.Reads as sends-reads
-use Rattle.mapping.proofs.steps_of.Reads as steps-of-reads
 
 meet-requires : tie.Need-meet-requires
 meet-requires c κs = search needs
 
 sends-requires : tie.Need-sends-requires
-sends-requires c κs = let s = c .before .before .before .pre in lasts-few _ _ (s .0) _ _ (s .1) (s .2) _ (c .before .before .meet .ensures)
+sends-requires c κs = let s = c .before .before .before .pre in let f = lasts-few _ _ (s .0) _ _ (s .1) (s .2) _ (c .before .before .meet .ensures) in search (needs, f)
 
 event-requires : tie.Need-event-requires
 event-requires c κs = search needs
@@ -22,17 +16,17 @@ event-requires c κs = search needs
 steps-of-requires : tie.Need-steps-of-requires
 steps-of-requires c κs =
     let s = c .before .before .before .before .before .pre in
-    passable-left _ _ (s .0) _ _ (s .1) (s .2) _ (c .before .before .before .before .meet .ensures) _ _ (c .before .sends .ensures) (c .event .ensures)
+    passable-left _ _ (s .0) _ _ (s .1) (s .2) _ (c .before .before .before .before .meet .ensures) _ _ (c .event .ensures)
 
 steps-of-requires-2 : tie.Need-steps-of-requires-2
 steps-of-requires-2 c κs =
     let s = c .before .before .before .before .before .before .pre in
-    passable-right _ _ (s .0) _ _ (s .1) (s .2) _ (c .before .before .before .before .before .meet .ensures) _ _ (c .before .before .sends .ensures) (c .before .event .ensures)
+    passable-right _ _ (s .0) _ _ (s .1) (s .2) _ (c .before .before .before .before .before .meet .ensures) _ _ (c .before .event .ensures)
 
 returns : tie.Need-returns
 returns c =
     let s = c .before .before .before .before .before .before .before .pre in
-    paired _ _ (s .0) _ _ (s .1) (s .2) _ (c .before .before .before .before .before .before .meet .ensures) _ _ (c .before .before .before .sends .ensures) (c .before .before .event .ensures) _ _ (c .before .steps-of .ensures) (c .steps-of2 .ensures)
+    paired _ _ (s .0) _ _ (s .1) (s .2) _ (c .before .before .before .before .before .before .meet .ensures) _ _ (c .before .before .event .ensures) (c .before .before .before .sends .ensures) _ _ (c .before .steps-of .ensures) (c .steps-of2 .ensures)
 
 pub pair-of-spec : {M : Type 1} → statement M
 pair-of-spec =

@@ -1,8 +1,6 @@
 -- `mapping::raise` meets its contract. The match settles whether the event is a duplication.
 -- Assumes nothing.
 use Rattle.mapping.proofs.Fields.{raised-duplication, raised-other}
-use Rattle.finite.proofs.Tests.{is-same, not-same}
-use Rattle.mapping.specs.Evaluation.{raisedBy}
 use borrow.Author.Needs.{needs}
 use Rattle.mapping.proofs.raise.Statement.{statement}
 use Rattle.mapping.proofs.raise.Tie as tie

@@ -1,8 +1,6 @@
 -- `mapping::sends` meets its contract.
 -- Assumes nothing.
 use Rattle.mapping.proofs.Fields.{sent-first, sent-second}
-use Rattle.finite.proofs.Tests.{is-same, not-same}
-use Rattle.mapping.specs.Pairs.{sentBy}
 use borrow.Author.Needs.{needs}
 use Rattle.mapping.proofs.sends.Statement.{statement}
 use Rattle.mapping.proofs.sends.Tie as tie

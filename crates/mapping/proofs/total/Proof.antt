@@ -4,15 +4,14 @@ use mathlib.Core.Path.{refl}
 use native.Mathlib.Omega.{arith}
 use Rattle.mapping.proofs.Fields.{transfers-fit, losses-fit}
 use Rattle.mapping.specs.Evaluation.{totalOf}
-use borrow.Author.Needs.{needs}
 use Rattle.mapping.proofs.total.Statement.{statement}
 use Rattle.mapping.proofs.total.Tie as tie
 
 mul-r : tie.Need-mul-r
-mul-r c = omega (arith, transfers-fit _ _ (c .before .before .pre))
+mul-r c = let s = c .before .before .pre in omega (arith, transfers-fit _ _ s, losses-fit _ _ s)
 
 mul-r-2 : tie.Need-mul-r-2
-mul-r-2 c = omega (arith, losses-fit _ _ (c .before .before .before .before .pre))
+mul-r-2 c = let s = c .before .before .before .before .pre in omega (arith, transfers-fit _ _ s, losses-fit _ _ s)
 
 add-r : tie.Need-add-r
 add-r c = let s = c .before .before .before .before .pre in omega (arith, transfers-fit _ _ s, losses-fit _ _ s)

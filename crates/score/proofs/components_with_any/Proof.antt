@@ -12,10 +12,6 @@ use mathlib.Core.Path.{_≡_}
 use Prim.Native.Nat.{_-_, _≤_}
 use Rattle.score.proofs.components_with_any.Statement.{statement}
 use Rattle.score.proofs.components_with_any.Tie as tie
-use Rattle.score.proofs.components_with_any.Reads as reads
-use Rattle.score.proofs.components_with_any.Lts as lts
-use Rattle.layout.proofs.parts.reticulation_count.Reads as reticulation-count-reads
-use Rattle.score.proofs.is_some.Reads as is-some-reads
 
 abbrev Inv-loop : tie.InvT-loop
 Inv-loop n parts r₀ v₀ r v = (v ≤ n) × (r ≤ v) × (r ≡ count v (λ w. not (same (reticulationCount parts w) 0)))

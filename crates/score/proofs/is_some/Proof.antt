@@ -3,8 +3,6 @@ use borrow.Author.Needs.{needs}
 use Rattle.finite.proofs.Tests.{is-same, not-same}
 use Rattle.score.proofs.is_some.Statement.{statement}
 use Rattle.score.proofs.is_some.Tie as tie
-use Rattle.score.proofs.is_some.Reads as reads
-use Rattle.score.proofs.is_some.Lts as lts
 
 returns : tie.Need-returns
 returns c = (rw (is-same (c .if1 .taken)), search needs)

@@ -14,10 +14,6 @@ use Rattle.finite.specs.Tests.{same, tally}
 use Prim.Native.Nat.{ℕ, _+_, _-_, _≤_, _<_}
 use Rattle.score.proofs.reticulations.Statement.{statement}
 use Rattle.score.proofs.reticulations.Tie as tie
-use Rattle.score.proofs.reticulations.Reads as reads
-use Rattle.score.proofs.reticulations.Lts as lts
-use Rattle.layout.proofs.lines.secondary.Reads as secondary-reads
-use Rattle.score.proofs.is_some.Reads as is-some-reads
 
 -- a node of the lines is a reticulation where it has a secondary parent
 reticulation-told : (n : ℕ) (l : List ℕ) (v x : ℕ) → v < n → x ≡ secondary l (v + 1) → tally (not (same x 0)) ≡ tally (isReticulation (network (nodesIn n l)) (v + 1))

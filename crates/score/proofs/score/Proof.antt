@@ -5,10 +5,6 @@ use mathlib.Core.Path.{sym, _∙_}
 use borrow.Author.Needs.{needs}
 use Rattle.score.proofs.score.Statement.{statement}
 use Rattle.score.proofs.score.Tie as tie
-use Rattle.score.proofs.score.Reads as reads
-use Rattle.score.proofs.score.Lts as lts
-use Rattle.score.proofs.score_lines.Reads as score-lines-reads
-use Rattle.sheet.proofs.read_header.Reads as read-header-reads
 
 returns : tie.Need-returns
 returns c = promise _ _ _ _ _ _ (words-refused _ _ _ (c .if1 .taken))

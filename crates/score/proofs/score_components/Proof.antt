@@ -1,18 +1,14 @@
 -- Assumes nothing.
-use Rattle.score.proofs.Outcomes.{refuses, no-others-in, sound-in}
+use Rattle.score.proofs.Outcomes.{refuses, sound-in}
 use Rattle.score.proofs.Refusals.{component-refuses}
 use Rattle.components.proofs.Readings.{verdict-crowded, verdict-uncrowded}
 use Rattle.tables.specs.Columns.{blank}
+use Rattle.network.proofs.Acceptance.{no-others}
 use native.Mathlib.Omega.{arith}
 use mathlib.Core.Path.{refl, sym, _∙_}
 use borrow.Author.Needs.{needs}
 use Rattle.score.proofs.score_components.Statement.{statement}
 use Rattle.score.proofs.score_components.Tie as tie
-use Rattle.score.proofs.score_components.Reads as reads
-use Rattle.score.proofs.score_components.Lts as lts
-use Rattle.components.proofs.crowded.Reads as crowded-reads
-use Rattle.components.proofs.fill.Reads as fill-reads
-use Rattle.score.proofs.score_genes.Reads as score-genes-reads
 
 fill-requires : tie.Need-fill-requires
 unfolding blank
@@ -22,13 +18,13 @@ crowded-requires : tie.Need-crowded-requires
 crowded-requires c κs = (c .before .before .before .before .before .pre .0 .limits .few-nodes, c .before .fill .ensures)
 
 returns : tie.Need-returns
-returns c = 
+returns c =
     let p = c .before .before .before .before .before .before .before .pre in
-    let e = component-refuses _ (no-others-in _ _) (p .1) 11 (λ z. omega arith) (verdict-crowded _ (sym (c .before .crowded .ensures) ∙ c .if1 .taken)) in
+    let e = component-refuses _ (no-others _ _) (p .1) 11 (λ z. omega arith) (verdict-crowded _ (sym (c .before .crowded .ensures) ∙ c .if1 .taken)) in
     refuses _ 11 _ _ _ e (λ z. omega arith)
 
 score-genes-requires : tie.Need-score-genes-requires
-score-genes-requires c κs = 
+score-genes-requires c κs =
     let p = c .before .before .before .before .before .before .before .before .before .before .pre in
     (p .0, record { network = p .1; component = verdict-uncrowded _ (sym (c .before .before .before .before .crowded .ensures) ∙ c .before .before .before .if1 .left) }, c .before .before .before .before .before .before .fill .ensures)
 

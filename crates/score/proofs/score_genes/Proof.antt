@@ -1,25 +1,22 @@
 -- Assumes nothing.
+use Rattle.network.proofs.Acceptance.{no-others}
 use mathlib.Core.Path.{sym, _∙_}
 use Rattle.score.proofs.Refusals.{genes-refuse}
-use Rattle.score.proofs.Outcomes.{refuses, reports, no-others-in}
+use Rattle.score.proofs.Outcomes.{refuses, reports}
 use borrow.Author.Needs.{needs}
 use Rattle.score.proofs.score_genes.Statement.{statement}
 use Rattle.score.proofs.score_genes.Tie as tie
-use Rattle.score.proofs.score_genes.Reads as reads
-use Rattle.score.proofs.score_genes.Lts as lts
-use Rattle.gene_tree.proofs.verdict.Reads as verdict-reads
-use Rattle.score.proofs.write_family.Reads as write-family-reads
 
 verdict-requires : tie.Need-verdict-requires
 verdict-requires c κs = let s = c .before .before .pre .0 in (s .limits .few-nodes, s .limits .few-genes)
 
 returns : tie.Need-returns
-returns c = 
+returns c =
     let p = c .before .before .before .before .pre .1 in
-    refuses _ _ _ _ _ (genes-refuse _ (no-others-in _ _) (p .network) (p .component) _ (c .before .verdict .ensures)) (c .if1 .taken)
+    refuses _ _ _ _ _ (genes-refuse _ (no-others _ _) (p .network) (p .component) _ (c .before .verdict .ensures)) (c .if1 .taken)
 
 write-family-requires : tie.Need-write-family-requires
-write-family-requires c κs = 
+write-family-requires c κs =
     let p = c .before .before .before .before .before .before .pre in
     let v = c .before .before .before .verdict .ensures in
     (p .0, record { network = p .1 .network; component = p .1 .component; genes = sym v ∙ c .before .before .if1 .left }, p .2)
@@ -31,10 +28,10 @@ same-length-2 : tie.Need-same-length-2
 same-length-2 c = search needs
 
 returns-2 : tie.Need-returns-2
-returns-2 c = 
+returns-2 c =
     let p = c .before .before .before .before .before .before .before .before .before .before .before .pre .1 in
     let v = c .before .before .before .before .before .before .before .before .verdict .ensures in
-    reports _ _ _ _ _ _ _ (genes-refuse _ (no-others-in _ _) (p .network) (p .component) _ v ∙ c .before .before .before .before .before .before .before .if1 .left) (c .before .before .before .before .write-family .ensures)
+    reports _ _ _ _ _ _ _ (genes-refuse _ (no-others _ _) (p .network) (p .component) _ v ∙ c .before .before .before .before .before .before .before .if1 .left) (c .before .before .before .before .write-family .ensures)
 
 pub score-genes-spec : {M : Type 1} → statement M
 score-genes-spec =

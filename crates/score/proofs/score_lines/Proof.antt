@@ -5,19 +5,12 @@ use Rattle.sheet.proofs.Storing.{cells-start}
 use borrow.Author.Needs.{needs}
 use Rattle.score.proofs.score_lines.Statement.{statement}
 use Rattle.score.proofs.score_lines.Tie as tie
-use Rattle.score.proofs.score_lines.Reads as reads
-use Rattle.score.proofs.score_lines.Lts as lts
-use Rattle.score.proofs.score_network.Reads as score-network-reads
-use Rattle.sheet.proofs.cells.Reads as cells-reads
-use Rattle.sheet.proofs.genes_in_order.Reads as genes-in-order-reads
-use Rattle.sheet.proofs.is_whole.Reads as is-whole-reads
-use Rattle.sheet.proofs.nodes_in_order.Reads as nodes-in-order-reads
 
 is-whole-requires : tie.Need-is-whole-requires
 is-whole-requires c κs = let f = header-is _ _ (c .before .before .before .pre .header) .limited in (f .few-nodes, f .few-genes)
 
 returns : tie.Need-returns
-returns c = 
+returns c =
     let p = c .before .before .before .before .before .pre in
     let k = header-is _ _ (p .header) in
     five-refused _ _ k _ _ (p .room) (p .space) (not-whole _ _ k _ (c .before .is-whole .ensures) (c .if1 .taken))
@@ -35,7 +28,7 @@ nodes-in-order-requires : tie.Need-nodes-in-order-requires
 nodes-in-order-requires c κs = let f = header-is _ _ (c .before .before .before .before .before .before .before .before .pre .header) .limited in f .few-nodes
 
 returns-2 : tie.Need-returns-2
-returns-2 c = 
+returns-2 c =
     let p = c .before .before .before .before .before .before .before .before .before .before .pre in
     let k = header-is _ _ (p .header) in
     five-refused _ _ k _ _ (p .room) (p .space) (nodes-amiss _ _ k _ (c .before .before .before .cells .ensures) _ (c .before .nodes-in-order .ensures) (c .if2 .taken))
@@ -44,13 +37,13 @@ genes-in-order-requires : tie.Need-genes-in-order-requires
 genes-in-order-requires c κs = let f = header-is _ _ (c .before .before .before .before .before .before .before .before .before .before .before .pre .header) .limited in (f .few-nodes, f .few-genes)
 
 returns-3 : tie.Need-returns-3
-returns-3 c = 
+returns-3 c =
     let p = c .before .before .before .before .before .before .before .before .before .before .before .before .before .pre in
     let k = header-is _ _ (p .header) in
     five-refused _ _ k _ _ (p .room) (p .space) (genes-amiss _ _ k _ (c .before .before .before .before .before .before .cells .ensures) _ (c .before .genes-in-order .ensures) (c .if3 .taken))
 
 score-network-requires : tie.Need-score-network-requires
-score-network-requires c κs = 
+score-network-requires c κs =
     let p = c .before .before .before .before .before .before .before .before .before .before .before .before .before .before .before .before .pre in
     sized _ _ (header-is _ _ (p .header)) _ (c .before .before .before .before .before .before .before .before .before .cells .ensures) _ _ (p .room) (p .space)
 
@@ -61,7 +54,7 @@ same-length-2 : tie.Need-same-length-2
 same-length-2 c = search needs
 
 returns-4 : tie.Need-returns-4
-returns-4 c = 
+returns-4 c =
     let p = c .before .before .before .before .before .before .before .before .before .before .before .before .before .before .before .before .before .before .before .before .before .pre in
     let k = header-is _ _ (p .header) in
     let cells-are = c .before .before .before .before .before .before .before .before .before .before .before .before .before .before .cells .ensures in

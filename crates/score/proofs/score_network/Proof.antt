@@ -1,20 +1,17 @@
 -- Assumes nothing.
-use Rattle.score.proofs.Outcomes.{refuses, no-others-in}
+use Rattle.network.proofs.Acceptance.{no-others}
+use Rattle.score.proofs.Outcomes.{refuses}
 use Rattle.score.proofs.Refusals.{network-refuses}
 use mathlib.Core.Path.{sym, _∙_}
 use borrow.Author.Needs.{needs}
 use Rattle.score.proofs.score_network.Statement.{statement}
 use Rattle.score.proofs.score_network.Tie as tie
-use Rattle.score.proofs.score_network.Reads as reads
-use Rattle.score.proofs.score_network.Lts as lts
-use Rattle.network.proofs.verdict.Reads as verdict-reads
-use Rattle.score.proofs.score_components.Reads as score-components-reads
 
 verdict-requires : tie.Need-verdict-requires
 verdict-requires c κs = c .before .before .pre .limits .few-nodes
 
 returns : tie.Need-returns
-returns c = refuses _ _ _ _ _ (network-refuses _ (no-others-in _ _) _ (c .before .verdict .ensures) (c .if1 .taken)) (c .if1 .taken)
+returns c = refuses _ _ _ _ _ (network-refuses _ (no-others _ _) _ (c .before .verdict .ensures) (c .if1 .taken)) (c .if1 .taken)
 
 score-components-requires : tie.Need-score-components-requires
 score-components-requires c κs = (c .before .before .before .before .before .before .pre, sym (c .before .before .before .verdict .ensures) ∙ c .before .before .if1 .left)

@@ -3,10 +3,6 @@ use Rattle.score.specs.Stages.{totalsBy}
 use borrow.Author.Needs.{needs}
 use Rattle.score.proofs.totals.Statement.{statement}
 use Rattle.score.proofs.totals.Tie as tie
-use Rattle.score.proofs.totals.Reads as reads
-use Rattle.score.proofs.totals.Lts as lts
-use Rattle.score.proofs.components_with_any.Reads as components-with-any-reads
-use Rattle.score.proofs.reticulations.Reads as reticulations-reads
 
 cast-t7 : tie.Need-cast-t7
 cast-t7 c = search needs

@@ -4,10 +4,6 @@ use mathlib.Core.Path.{refl}
 use borrow.Author.Needs.{needs}
 use Rattle.score.proofs.write_family.Statement.{statement}
 use Rattle.score.proofs.write_family.Tie as tie
-use Rattle.score.proofs.write_family.Reads as reads
-use Rattle.score.proofs.write_family.Lts as lts
-use Rattle.gene_tree.proofs.fill.Reads as fill-reads
-use Rattle.score.proofs.write_worked.Reads as write-worked-reads
 
 fill-requires : tie.Need-fill-requires
 unfolding blank

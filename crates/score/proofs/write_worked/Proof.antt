@@ -5,12 +5,6 @@ use Rattle.score.proofs.Reports.{prepares, whole-ready, whole-room, nod
 use borrow.Author.Needs.{needs}
 use Rattle.score.proofs.write_worked.Statement.{statement}
 use Rattle.score.proofs.write_worked.Tie as tie
-use Rattle.score.proofs.write_worked.Reads as reads
-use Rattle.score.proofs.write_worked.Lts as lts
-use Rattle.report.proofs.write_report.Reads as write-report-reads
-use Rattle.score.proofs.totals.Reads as totals-reads
-use Rattle.search.proofs.run.Reads as run-reads
-use Rattle.whole_network.proofs.fill.Reads as fill-reads
 
 run-requires : tie.Need-run-requires
 unfolding blank
@@ -23,7 +17,7 @@ totals-requires : tie.Need-totals-requires
 totals-requires c κs = search needs
 
 write-report-requires : tie.Need-write-report-requires
-write-report-requires c κs = 
+write-report-requires c κs =
     let E = c .before .before .before .before .before .before .before .before .before .before .before .before .before .before .pre in
     let S = E .sized in
     let P = E .passed in
@@ -39,7 +33,7 @@ same-length-2 : tie.Need-same-length-2
 same-length-2 c = search needs
 
 returns : tie.Need-returns
-returns c = 
+returns c =
     let E = c .before .before .before .before .before .before .before .before .before .before .before .before .before .before .before .before .before .pre in
     let T = c .before .before .before .before .before .before .before .before .before .fill .ensures in
     let F = c .before .before .before .before .before .before .before .before .before .before .before .run .ensures in

@@ -1,6 +1,5 @@
 -- Assumes nothing.
 use native.Mathlib.Omega.{arith}
-use borrow.Author.Needs.{needs}
 use mathlib.Core.Path.{_≡_, refl, _∙_}
 use Rattle.search.proofs.Turns.{few-reticulations, tried-is, tried-still, awaits, finishes}
 use Rattle.search.specs.Steps.{Reached}
@@ -9,12 +8,6 @@ use Rattle.layout.specs.Headers.{costs}
 use Prim.Native.Nat.{_-_, _≤_}
 use Rattle.search.proofs.component.Statement.{statement}
 use Rattle.search.proofs.component.Tie as tie
-use Rattle.search.proofs.component.Reads as reads
-use Rattle.search.proofs.component.Lts as lts
-use Rattle.layout.proofs.parts.reticulation_count.Reads as reticulation-count-reads
-use Rattle.search.proofs.finish.Reads as finish-reads
-use Rattle.search.proofs.settings_of.Reads as settings-of-reads
-use Rattle.search.proofs.step.Reads as step-reads
 
 abbrev Inv-loop : tie.InvT-loop
 Inv-loop h lines parts genes choices₀ t₀ r₀ tried stage₀ choices t r stage = (stage .done ≡ stage₀ .done) × (stage .setting ≤ tried) × Reached (networkOf h lines) (genesOf h genes) (costs h) choices stage × Working h lines genes t r

@@ -1,6 +1,5 @@
 -- Assumes nothing.
 use native.Mathlib.Omega.{arith}
-use borrow.Author.Needs.{needs}
 use Rattle.search.proofs.Turns.{begins, ends}
 use Rattle.search.specs.Steps.{Reached}
 use Rattle.search.specs.Prepared.{networkOf, genesOf, Working}
@@ -9,9 +8,6 @@ use Prim.Native.Nat.{_-_, _≤_}
 use mathlib.Core.Path.{_≡_, refl}
 use Rattle.search.proofs.components.Statement.{statement}
 use Rattle.search.proofs.components.Tie as tie
-use Rattle.search.proofs.components.Reads as reads
-use Rattle.search.proofs.components.Lts as lts
-use Rattle.search.proofs.component.Reads as component-reads
 
 abbrev Inv-loop : tie.InvT-loop
 Inv-loop h lines parts genes choices₀ t₀ r₀ stage₀ choices t r stage = (stage .done ≤ h .nodes) × (stage .setting ≡ 0) × Reached (networkOf h lines) (genesOf h genes) (costs h) choices stage × Working h lines genes t r

@@ -3,10 +3,6 @@ use Rattle.search.proofs.Turns.{family-held, assembly}
 use borrow.Author.Needs.{needs}
 use Rattle.search.proofs.evaluated.Statement.{statement}
 use Rattle.search.proofs.evaluated.Tie as tie
-use Rattle.search.proofs.evaluated.Reads as reads
-use Rattle.search.proofs.evaluated.Lts as lts
-use Rattle.mapping.proofs.evaluate.Reads as evaluate-reads
-use Rattle.switching.proofs.switch.Reads as switch-reads
 
 switch-requires : tie.Need-switch-requires
 switch-requires c κs = search needs

@@ -3,11 +3,6 @@ use Rattle.search.proofs.Turns.{works-first, searched}
 use borrow.Author.Needs.{needs}
 use Rattle.search.proofs.run.Statement.{statement}
 use Rattle.search.proofs.run.Tie as tie
-use Rattle.search.proofs.run.Reads as reads
-use Rattle.search.proofs.run.Lts as lts
-use Rattle.search.proofs.components.Reads as components-reads
-use Rattle.search.proofs.evaluated.Reads as evaluated-reads
-use Rattle.switching.proofs.start.Reads as start-reads
 
 start-requires : tie.Need-start-requires
 start-requires c κs = search needs

@@ -8,8 +8,6 @@ use Rattle.optimum.specs.Optimum.{trialsOf}
 use borrow.Author.Needs.{needs}
 use Rattle.search.proofs.settings_of.Statement.{statement}
 use Rattle.search.proofs.settings_of.Tie as tie
-use Rattle.search.proofs.settings_of.Reads as reads
-use Rattle.search.proofs.settings_of.Lts as lts
 
 returns : tie.Need-returns
 unfolding trialsOf

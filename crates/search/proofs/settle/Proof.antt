@@ -4,10 +4,6 @@ use Rattle.search.proofs.Settled.{settled-taken, settled-kept}
 use borrow.Author.Needs.{needs}
 use Rattle.search.proofs.settle.Statement.{statement}
 use Rattle.search.proofs.settle.Tie as tie
-use Rattle.search.proofs.settle.Reads as reads
-use Rattle.search.proofs.settle.Lts as lts
-use Rattle.search.proofs.takes.Reads as takes-reads
-use Rattle.tables.proofs.put.Reads as put-reads
 
 add-r : tie.Need-add-r
 add-r c = search needs

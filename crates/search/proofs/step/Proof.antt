@@ -4,11 +4,6 @@ use Rattle.search.proofs.Turns.{step-fits, step-settles, step-reaches, 
 use borrow.Author.Needs.{needs}
 use Rattle.search.proofs.step.Statement.{statement}
 use Rattle.search.proofs.step.Tie as tie
-use Rattle.search.proofs.step.Reads as reads
-use Rattle.search.proofs.step.Lts as lts
-use Rattle.search.proofs.evaluated.Reads as evaluated-reads
-use Rattle.search.proofs.settle.Reads as settle-reads
-use Rattle.tables.proofs.put.Reads as put-reads
 
 add-put : tie.Need-add-put
 add-put c = let s = c .before .before .pre in omega (arith, step-fits _ _ _ _ (s .0 .0) _ _ (s .1))

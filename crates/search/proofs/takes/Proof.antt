@@ -5,8 +5,6 @@ use Rattle.finite.proofs.Tests.{is-same, not-same}
 use Rattle.search.specs.Steps.{takes}
 use Rattle.search.proofs.takes.Statement.{statement}
 use Rattle.search.proofs.takes.Tie as tie
-use Rattle.search.proofs.takes.Reads as reads
-use Rattle.search.proofs.takes.Lts as lts
 
 returns : tie.Need-returns
 unfolding takes

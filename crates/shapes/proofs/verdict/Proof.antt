@@ -25,7 +25,11 @@ after-eight-requires c κs = search needs
 
 returns-2 : tie.Need-returns-2
 unfolding shapeRefusals
-returns-2 c = c .after-eight .ensures ∙ sym (verdict-later _ _ (told _ _ _ (c .before .before .before .eight .ensures) (c .before .before .if1 .left)))
+returns-2 c =
+    let eight-is = c .before .before .before .eight .ensures in
+    let t1 = c .before .before .if1 .left in
+    let after-eight-is = c .after-eight .ensures in
+    after-eight-is ∙ sym (verdict-later _ _ (told _ _ _ eight-is t1))
 
 pub verdict-spec : {M : Type 1} → statement M
 verdict-spec =

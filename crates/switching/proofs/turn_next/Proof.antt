@@ -23,7 +23,8 @@ get-requires : tie.Need-get-requires
 get-requires c κs =
     let s = c .before .before .before .pre .0 in
     let d = read-reticulation _ _ _ _ (s .1) (c .before .before .secondary .ensures) (c .before .if1 .left) in
-    (s .5, top-low _ _ _ (s .0) (s .2) (s .3) _ d _ (c .top .ensures))
+    let l = top-low _ _ _ (s .0) (s .2) (s .3) _ d _ (c .top .ensures) in
+    search (needs, l)
 
 reticulation-count-requires : tie.Need-reticulation-count-requires
 reticulation-count-requires c κs =

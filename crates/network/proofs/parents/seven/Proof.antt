@@ -3,9 +3,9 @@
 use Prim.Native.Nat.{_-_, _≤_}
 use mathlib.Core.Path.{_≡_}
 use mathlib.Core.Bool.{false}
-use Rattle.layout.specs.Lines.{nodesIn}
 use Rattle.finite.specs.Range.{some}
 use Rattle.finite.proofs.Every.{some-loop}
+use Rattle.layout.specs.Lines.{nodesIn}
 use Rattle.network.specs.Refusals.{refusal7, badStampsAt}
 use borrow.Author.Needs.{needs}
 use Rattle.network.proofs.parents.seven.Statement.{statement}

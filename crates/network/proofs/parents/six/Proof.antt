@@ -2,8 +2,8 @@
 -- Assumes nothing.
 use mathlib.Core.Path.{sym}
 use Rattle.finite.specs.Tests.{same}
-use Rattle.layout.specs.Lines.{nodesIn}
 use Rattle.finite.proofs.Tests.{or-yes-l, or-rest, told}
+use Rattle.layout.specs.Lines.{nodesIn}
 use Rattle.network.specs.Refusals.{refusal6}
 use Rattle.network.proofs.AsRead.{roots-read}
 use borrow.Author.Needs.{needs}
@@ -22,7 +22,11 @@ count-of-requires c κs = search needs
 
 returns-2 : tie.Need-returns-2
 unfolding refusal6 nodesIn same
-returns-2 c = or-rest _ _ _ (told _ _ _ (c .before .before .before .some-bad-parents .ensures) (c .before .before .if1 .left)) (roots-read _ _ _ (c .count-of .ensures .0))
+returns-2 c =
+    let some-bad-parents-is = c .before .before .before .some-bad-parents .ensures in
+    let t1 = c .before .before .if1 .left in
+    let count-of-is = c .count-of .ensures in
+    or-rest _ _ _ (told _ _ _ some-bad-parents-is t1) (roots-read _ _ (count-of-is .0))
 
 pub six-spec : {M : Type 1} → statement M
 six-spec = tie.close (tie.spec some-bad-parents-requires returns count-of-requires returns-2)

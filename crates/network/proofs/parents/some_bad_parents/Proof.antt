@@ -3,9 +3,9 @@
 use Prim.Native.Nat.{_-_, _≤_}
 use mathlib.Core.Path.{_≡_}
 use mathlib.Core.Bool.{false}
-use Rattle.layout.specs.Lines.{nodesIn}
 use Rattle.finite.specs.Range.{some}
 use Rattle.finite.proofs.Every.{some-start, some-turn, some-stop, some-done}
+use Rattle.layout.specs.Lines.{nodesIn}
 use Rattle.network.specs.Refusals.{badParentsAt}
 use Rattle.network.proofs.AsRead.{parents-read}
 use borrow.Author.Needs.{needs}
@@ -34,16 +34,28 @@ bad-parents-requires : tie.Need-bad-parents-requires Inv-loop μ-loop
 bad-parents-requires c κs = search needs
 
 returns : tie.Need-returns Inv-loop μ-loop
-returns c = some-stop _ _ _ _ (c .before .before .before .before .loop-test .taken) (parents-read _ _ _ (search needs) (search needs) _ _ _ (c .before .before .before .principal .ensures) (c .before .before .secondary .ensures) (c .before .bad-parents .ensures)) (c .if1 .taken)
+returns c =
+    let t = c .before .before .before .before .loop-test .taken in
+    let principal-is = c .before .before .before .principal .ensures in
+    let secondary-is = c .before .before .secondary .ensures in
+    let bad-parents-is = c .before .bad-parents .ensures in
+    let t1 = c .if1 .taken in
+    some-stop _ _ _ _ t (parents-read _ (search needs) (search needs) principal-is secondary-is bad-parents-is) t1
 
 loop-less : tie.Need-loop-less Inv-loop μ-loop
 loop-less c = search needs
 
 loop-again : tie.Need-loop-again Inv-loop μ-loop
-loop-again c = (search needs, some-turn _ _ _ (c .before .before .before .before .before .loop .inv .1) (parents-read _ _ _ (search needs) (search needs) _ _ _ (c .before .before .before .principal .ensures) (c .before .before .secondary .ensures) (c .before .bad-parents .ensures)) (c .if1 .left))
+loop-again c =
+    let i = c .before .before .before .before .before .loop .inv in
+    let principal-is = c .before .before .before .principal .ensures in
+    let secondary-is = c .before .before .secondary .ensures in
+    let bad-parents-is = c .before .bad-parents .ensures in
+    let t1 = c .if1 .left in
+    (search needs, some-turn _ _ _ (i .1) (parents-read _ (search needs) (search needs) principal-is secondary-is bad-parents-is) t1)
 
 returns-2 : tie.Need-returns-2 Inv-loop μ-loop
-returns-2 c = some-done _ _ _ (c .before .loop .inv .0) (search needs) (c .before .loop .inv .1)
+returns-2 c = some-done _ _ _ (c .before .loop .inv .0) (c .loop-test .left) (c .before .loop .inv .1)
 
 pub some-bad-parents-spec : {M : Type 1} → statement M
 some-bad-parents-spec =

@@ -2,11 +2,11 @@
 -- Assumes nothing.
 use Prim.Native.Nat.{_-_, _≤_}
 use mathlib.Core.Path.{_∙_}
-use Rattle.layout.specs.Lines.{nodesIn}
 use Rattle.tables.specs.Columns.{Kept}
 use Rattle.tables.specs.Children.{Counted}
 use Rattle.tables.proofs.Columns.{kept-none}
 use Rattle.tables.proofs.Counts.{counted-start, counted-turn, counted-few, counted-done, kept-raised}
+use Rattle.layout.specs.Lines.{nodesIn}
 use Rattle.shapes.specs.ShortForms.{plainParentAt}
 use Rattle.shapes.proofs.AsRead.{plain-read}
 use borrow.Author.Needs.{needs}
@@ -30,19 +30,31 @@ plain-parent-requires : tie.Need-plain-parent-requires Inv-loop μ-loop
 plain-parent-requires c κs = search needs
 
 count-at-requires : tie.Need-count-at-requires Inv-loop μ-loop
-count-at-requires c κs = (search needs, search needs, counted-few _ _ _ (c .before .before .before .before .pre .0) (omega arith) _ _ _ (c .before .before .before .loop .inv .0) (c .before .before .before .loop .inv .1))
+count-at-requires c κs =
+    let s = c .before .before .before .before .pre in
+    let i = c .before .before .before .loop .inv in
+    (search needs, search needs, counted-few _ _ _ (s .0) (omega arith) _ _ _ (i .0) (i .1))
 
 loop-less : tie.Need-loop-less Inv-loop μ-loop
 loop-less c = search needs
 
 loop-again : tie.Need-loop-again Inv-loop μ-loop
-loop-again c = let s = c .before .before .before .before .before .pre in let i = c .before .before .before .before .loop .inv in (search needs, counted-turn _ _ _ (s .0) (omega arith) _ _ _ _ (plain-read _ _ _ (search needs) (search needs) _ (c .before .before .plain-parent .ensures)) (c .count-at .ensures) (i .1), kept-raised _ _ _ _ _ _ (s .0) (c .count-at .ensures) (i .2))
+loop-again c =
+    let s = c .before .before .before .before .before .pre in
+    let i = c .before .before .before .before .loop .inv in
+    let plain-parent-is = c .before .before .plain-parent .ensures in
+    let count-at-is = c .count-at .ensures in
+    (search needs, counted-turn _ _ _ (s .0) (omega arith) _ _ _ _ (plain-read _ (search needs) (search needs) plain-parent-is) count-at-is (i .1), kept-raised _ _ _ _ _ _ (s .0) count-at-is (i .2))
 
 put-requires : tie.Need-put-requires Inv-loop μ-loop
 put-requires c κs = search needs
 
 returns : tie.Need-returns Inv-loop μ-loop
-returns c = let s = c .before .before .before .before .pre in let i = c .before .before .before .loop .inv in c .put .ensures ∙ counted-done _ _ _ (s .0) (omega arith) _ _ _ (i .0) (search needs) (s .1) (i .2) (i .1)
+returns c =
+    let s = c .before .before .before .before .pre in
+    let i = c .before .before .before .loop .inv in
+    let put-is = c .put .ensures in
+    put-is ∙ counted-done _ _ _ (s .0) (omega arith) _ _ _ (i .0) (search needs) (s .1) (i .2) (i .1)
 
 pub plain-counts-spec : {M : Type 1} → statement M
 plain-counts-spec =

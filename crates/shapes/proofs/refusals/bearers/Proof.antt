@@ -9,7 +9,7 @@ index-requires : tie.Need-index-requires
 index-requires c κs = search needs
 
 returns : tie.Need-returns
-returns c = bearers-read _ _ _ (c .before .before .pre .1) _ _ (c .before .before .pre .0 .1) (c .before .if1 .taken) (c .index .ensures)
+returns c = bearers-read _ (c .before .before .pre .1) (c .before .before .pre .0 .1) (c .before .if1 .taken) (c .index .ensures)
 
 count-of-requires : tie.Need-count-of-requires
 count-of-requires c κs = search needs

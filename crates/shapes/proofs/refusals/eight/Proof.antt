@@ -3,9 +3,9 @@
 use Prim.Native.Nat.{_-_, _≤_}
 use mathlib.Core.Path.{_≡_}
 use mathlib.Core.Bool.{false}
-use Rattle.layout.specs.Lines.{nodesIn}
 use Rattle.finite.specs.Range.{some}
 use Rattle.finite.proofs.Every.{some-start, some-turn, some-stop, some-done}
+use Rattle.layout.specs.Lines.{nodesIn}
 use Rattle.shapes.specs.Refusals.{refusal8, shapelessAt}
 use Rattle.shapes.proofs.AsRead.{principals-few, secondaries-few, shapeless-read}
 use borrow.Author.Needs.{needs}
@@ -37,17 +37,41 @@ secondary-requires : tie.Need-secondary-requires Inv-loop μ-loop
 secondary-requires c κs = search needs
 
 shapeless-requires : tie.Need-shapeless-requires Inv-loop μ-loop
-shapeless-requires c κs = (principals-few _ _ _ (search needs) (search needs) _ (c .before .before .before .before .before .before .pre .1) _ _ (c .before .before .before .index .ensures) (c .before .before .index2 .ensures) (c .before .before .before .before .before .before .pre .0), secondaries-few _ _ _ (search needs) (search needs) _ (c .before .before .before .before .before .before .pre .1) _ _ (c .before .before .before .index .ensures) (c .before .before .index2 .ensures) (c .before .before .before .before .before .before .pre .0))
+shapeless-requires c κs =
+    let s = c .before .before .before .before .before .before .pre in
+    let index-is = c .before .before .before .index .ensures in
+    let index2-is = c .before .before .index2 .ensures in (
+      principals-few _ (search needs) (search needs) (s .1) index-is index2-is (s .0),
+      secondaries-few _ (search needs) (search needs) (s .1) index-is index2-is (s .0),
+    )
 
 returns : tie.Need-returns Inv-loop μ-loop
 unfolding refusal8 nodesIn
-returns c = some-stop _ _ _ _ (c .before .before .before .before .before .before .loop-test .taken) (shapeless-read _ _ _ (search needs) (search needs) _ (c .before .before .before .before .before .before .before .before .pre .1) _ _ (c .before .before .before .before .before .index .ensures) (c .before .before .before .before .index2 .ensures) _ _ _ (c .before .before .before .principal .ensures) (c .before .before .secondary .ensures) (c .before .shapeless .ensures)) (c .if1 .taken)
+returns c =
+    let s = c .before .before .before .before .before .before .before .before .pre in
+    let t = c .before .before .before .before .before .before .loop-test .taken in
+    let index-is = c .before .before .before .before .before .index .ensures in
+    let index2-is = c .before .before .before .before .index2 .ensures in
+    let principal-is = c .before .before .before .principal .ensures in
+    let secondary-is = c .before .before .secondary .ensures in
+    let shapeless-is = c .before .shapeless .ensures in
+    let t1 = c .if1 .taken in
+    some-stop _ _ _ _ t (shapeless-read _ (search needs) (search needs) (s .1) index-is index2-is principal-is secondary-is shapeless-is) t1
 
 loop-less : tie.Need-loop-less Inv-loop μ-loop
 loop-less c = search needs
 
 loop-again : tie.Need-loop-again Inv-loop μ-loop
-loop-again c = (search needs, some-turn _ _ _ (c .before .before .before .before .before .before .before .loop .inv .1) (shapeless-read _ _ _ (search needs) (search needs) _ (c .before .before .before .before .before .before .before .before .pre .1) _ _ (c .before .before .before .before .before .index .ensures) (c .before .before .before .before .index2 .ensures) _ _ _ (c .before .before .before .principal .ensures) (c .before .before .secondary .ensures) (c .before .shapeless .ensures)) (c .if1 .left))
+loop-again c =
+    let s = c .before .before .before .before .before .before .before .before .pre in
+    let i = c .before .before .before .before .before .before .before .loop .inv in
+    let index-is = c .before .before .before .before .before .index .ensures in
+    let index2-is = c .before .before .before .before .index2 .ensures in
+    let principal-is = c .before .before .before .principal .ensures in
+    let secondary-is = c .before .before .secondary .ensures in
+    let shapeless-is = c .before .shapeless .ensures in
+    let t1 = c .if1 .left in
+    (search needs, some-turn _ _ _ (i .1) (shapeless-read _ (search needs) (search needs) (s .1) index-is index2-is principal-is secondary-is shapeless-is) t1)
 
 returns-2 : tie.Need-returns-2 Inv-loop μ-loop
 unfolding refusal8 nodesIn

@@ -1,12 +1,11 @@
 -- No node tested so far has a wrong species; one that has settles the answer.
 -- Assumes nothing.
 use Prim.Native.Nat.{_-_, _≤_}
-use mathlib.Core.Path.{_≡_}
+use mathlib.Core.Path.{_≡_, _∙_}
 use mathlib.Core.Bool.{false}
-use mathlib.Core.Path.{_∙_}
-use Rattle.layout.specs.Lines.{nodesIn}
 use Rattle.finite.specs.Range.{some}
 use Rattle.finite.proofs.Every.{some-stop, some-done, some-loop}
+use Rattle.layout.specs.Lines.{nodesIn}
 use Rattle.shapes.specs.ShortForms.{wrongSpeciesAt}
 use Rattle.shapes.proofs.ShortForms.{wrong-iff}
 use borrow.Author.Needs.{needs}

@@ -36,13 +36,27 @@ only-reticulations-requires : tie.Need-only-reticulations-requires Inv-loop μ-l
 only-reticulations-requires c κs = search needs
 
 returns : tie.Need-returns Inv-loop μ-loop
-returns c = some-stop _ _ _ _ (c .before .before .before .before .before .loop-test .taken) (only-told _ _ _ _ _ _ (c .before .before .before .before .index .ensures) (c .before .before .before .index2 .ensures) (c .before .before .index3 .ensures) (c .before .only-reticulations .ensures)) (c .if1 .taken)
+returns c =
+    let t = c .before .before .before .before .before .loop-test .taken in
+    let index-is = c .before .before .before .before .index .ensures in
+    let index2-is = c .before .before .before .index2 .ensures in
+    let index3-is = c .before .before .index3 .ensures in
+    let only-reticulations-is = c .before .only-reticulations .ensures in
+    let t1 = c .if1 .taken in
+    some-stop _ _ _ _ t (only-told _ _ index-is index2-is index3-is only-reticulations-is) t1
 
 loop-less : tie.Need-loop-less Inv-loop μ-loop
 loop-less c = search needs
 
 loop-again : tie.Need-loop-again Inv-loop μ-loop
-loop-again c = (search needs, some-turn _ _ _ (c .before .before .before .before .before .before .loop .inv .1) (only-told _ _ _ _ _ _ (c .before .before .before .before .index .ensures) (c .before .before .before .index2 .ensures) (c .before .before .index3 .ensures) (c .before .only-reticulations .ensures)) (c .if1 .left))
+loop-again c =
+    let i = c .before .before .before .before .before .before .loop .inv in
+    let index-is = c .before .before .before .before .index .ensures in
+    let index2-is = c .before .before .before .index2 .ensures in
+    let index3-is = c .before .before .index3 .ensures in
+    let only-reticulations-is = c .before .only-reticulations .ensures in
+    let t1 = c .if1 .left in
+    (search needs, some-turn _ _ _ (i .1) (only-told _ _ index-is index2-is index3-is only-reticulations-is) t1)
 
 returns-2 : tie.Need-returns-2 Inv-loop μ-loop
 returns-2 c = some-done _ _ _ (c .before .loop .inv .0) (c .loop-test .left) (c .before .loop .inv .1)

@@ -23,17 +23,44 @@ leaf-with-requires c κs = search needs
 
 returns : tie.Need-returns
 unfolding same
-returns c = other-read _ _ _ (c .before .before .before .before .before .before .pre .0 .1) (c .before .before .before .before .before .before .pre .0 .2) _ (c .before .before .before .before .before .before .pre .1) _ _ (c .before .before .before .before .index .ensures) (c .before .before .before .index2 .ensures) _ _ _ (c .before .before .secondary .ensures) (c .before .before .before .before .before .node-species .ensures) (c .before .leaf-with .ensures) (c .if1 .taken)
+returns c =
+    let s = c .before .before .before .before .before .before .pre in
+    let node-species-is = c .before .before .before .before .before .node-species .ensures in
+    let index-is = c .before .before .before .before .index .ensures in
+    let index2-is = c .before .before .before .index2 .ensures in
+    let secondary-is = c .before .before .secondary .ensures in
+    let leaf-with-is = c .before .leaf-with .ensures in
+    let t1 = c .if1 .taken in
+    other-read _ (s .0 .1) (s .0 .2) (s .1) index-is index2-is secondary-is node-species-is leaf-with-is t1
 
 returns-2 : tie.Need-returns-2
-returns-2 c = bare-read _ _ _ (c .before .before .before .before .before .before .before .pre .0 .1) (c .before .before .before .before .before .before .before .pre .0 .2) _ (c .before .before .before .before .before .before .before .pre .1) _ _ (c .before .before .before .before .before .index .ensures) (c .before .before .before .before .index2 .ensures) _ _ _ (c .before .before .before .secondary .ensures) (c .before .before .before .before .before .before .node-species .ensures) (c .before .before .leaf-with .ensures) (c .before .if1 .left) (c .if2 .taken)
+returns-2 c =
+    let s = c .before .before .before .before .before .before .before .pre in
+    let node-species-is = c .before .before .before .before .before .before .node-species .ensures in
+    let index-is = c .before .before .before .before .before .index .ensures in
+    let index2-is = c .before .before .before .before .index2 .ensures in
+    let secondary-is = c .before .before .before .secondary .ensures in
+    let leaf-with-is = c .before .before .leaf-with .ensures in
+    let t1 = c .before .if1 .left in
+    let t2 = c .if2 .taken in
+    bare-read _ (s .0 .1) (s .0 .2) (s .1) index-is index2-is secondary-is node-species-is leaf-with-is t1 t2
 
 bearers-requires : tie.Need-bearers-requires
 bearers-requires c κs = search needs
 
 returns-3 : tie.Need-returns-3
 unfolding same
-returns-3 c = borne-read _ _ _ (c .before .before .before .before .before .before .before .before .pre .0 .1) (c .before .before .before .before .before .before .before .before .pre .0 .2) _ (c .before .before .before .before .before .before .before .before .pre .1) _ _ (c .before .before .before .before .before .before .index .ensures) (c .before .before .before .before .before .index2 .ensures) _ _ _ (c .before .before .before .before .secondary .ensures) (c .before .before .before .before .before .before .before .node-species .ensures) (c .before .before .before .leaf-with .ensures) _ (c .before .before .if1 .left) (c .before .if2 .left) (c .bearers .ensures)
+returns-3 c =
+    let s = c .before .before .before .before .before .before .before .before .pre in
+    let node-species-is = c .before .before .before .before .before .before .before .node-species .ensures in
+    let index-is = c .before .before .before .before .before .before .index .ensures in
+    let index2-is = c .before .before .before .before .before .index2 .ensures in
+    let secondary-is = c .before .before .before .before .secondary .ensures in
+    let leaf-with-is = c .before .before .before .leaf-with .ensures in
+    let t1 = c .before .before .if1 .left in
+    let t2 = c .before .if2 .left in
+    let bearers-is = c .bearers .ensures in
+    borne-read _ (s .0 .1) (s .0 .2) (s .1) index-is index2-is secondary-is node-species-is leaf-with-is t1 t2 bearers-is
 
 pub wrong-species-at-spec : {M : Type 1} → statement M
 wrong-species-at-spec =
