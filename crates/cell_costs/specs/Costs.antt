@@ -1,5 +1,5 @@
--- The least cost of a gene at a node from rows of words (01, "The network as a whole"; the clauses are in histories, specs/Histories): for each of the
--- tables by which the arcs out are read.
+-- The least cost of a gene at a node from rows of words (01, "The network as a whole"; the clauses are in histories, specs/Histories), the arcs
+-- out of the node being read from the table of arcs.
 -- Assumes nothing.
 use mathlib.Core.Path.{_≡_}
 use mathlib.Core.Logic.{_≢_}

@@ -1,5 +1,5 @@
 -- Displayed trees of a network: each is a tree, and where its marks are near, two switchings that agree in v's component display trees that are alike
--- at v. So the last-common-ancestor cost is local, whatever the marks; and the marks of 01 are near.
+-- at v. So the last-common-ancestor cost is local under near marks; and the marks of 01 are near.
 -- Assumes nothing.
 use mathlib.Core.Path.{_≡_, refl, sym, _∙_, ap}
 use mathlib.Core.Logic.{_≢_}

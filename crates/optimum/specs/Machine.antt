@@ -1,5 +1,5 @@
--- The search: "a plain machine whose state is a value" (01, "Settings and placement"). Components go by their tops 1..n; component c has `settings c` settings to be tried (none
--- where it has no reticulation), and setting x of it costs `trial c x`.
+-- The search: "a plain machine whose state is a value" (01, "Settings and placement"). Components go by their tops 1..n;
+-- component c has `settings c` settings to be tried (none where it has no reticulation), and setting x of it costs `trial c x`.
 -- Assumes nothing.
 use mathlib.Core.Path.{_≡_}
 use mathlib.Core.Bool.{cond}

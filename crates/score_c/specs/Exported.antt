@@ -12,5 +12,5 @@ pub record Exported (sheet result resultAfter scratch scratchAfter : List ℕ) (
   pub answer : Answer
   -- demands 1, 2 and 3 of it
   pub promise : Promise sheet result resultAfter scratch scratchAfter answer
-  -- the paper's number for it (01, "The call"): a refusal's own number, a report's bytes
+  -- the paper's number for it (01, "Refusals, by who can cause them"): a refusal's own number, a report's bytes
   pub told : number ≡ numberOf answer

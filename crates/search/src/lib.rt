@@ -162,13 +162,14 @@ fn components(
     ensures { λ c. ⌜ Last (networkOf h (now (lines .entry))) (genesOf h (now (genes .entry))) (costs h) (now (choices .exit)) c ⌝ }
     ensures { λ _. ⌜ Working h (now (lines .entry)) (now (genes .entry)) (now (t .exit)) (now (r .exit)) ⌝ }
 {
+    let n = h.nodes;
     let mut stage = Stage {
         done: 0,
         setting: 0,
         least: 0,
         count: 0,
     };
-    while stage.done < h.nodes {
+    while stage.done < n {
         stage = component(h, lines, parts, genes, choices, t, r, stage);
     }
     stage.count

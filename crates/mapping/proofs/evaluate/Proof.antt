@@ -1,3 +1,5 @@
+-- Every gene, by falling number. The invariant (`Upto`): the genes above k have their place, event, transfers and losses, and the score counts
+-- their events.
 -- Assumes nothing.
 use native.Mathlib.Omega.{arith}
 use borrow.Author.Needs.{needs}

@@ -1,3 +1,4 @@
+-- A leaf gene sits at its leaf, an inner gene where its children's climbs meet; either way one gene more is done (proofs/Evaluating).
 -- Assumes nothing.
 use Rattle.mapping.proofs.Evaluating.{leaf-fits, leaf-turn, inner-fits, inner-room, inner-turn}
 use borrow.Author.Needs.{needs}

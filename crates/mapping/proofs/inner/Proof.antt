@@ -1,3 +1,4 @@
+-- The pair of children is mapped, and noted at the gene and its children.
 -- Assumes nothing.
 use Rattle.mapping.specs.Evaluation.{notedBy}
 use Rattle.mapping.proofs.Pairing.{paired-few}

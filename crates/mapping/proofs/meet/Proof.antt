@@ -1,3 +1,5 @@
+-- Two climbers, of which the lower climbs. The invariant (`Climbing`, proofs/Meeting): both still stand at or below the lowest common node, and
+-- each way counts what was climbed.
 -- Assumes nothing.
 use Rattle.mapping.proofs.Meeting.{Climbing, node-few, climbing-start, left-node, right-node, left-light, right-light, climbing-left, climbing-right, falls-left, falls-right, climbing-done}
 use Rattle.mapping.specs.Climbs.{treeOf}

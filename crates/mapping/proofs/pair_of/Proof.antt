@@ -1,3 +1,4 @@
+-- Place, ways, event and steps of a pair, one after the other; together they are what the mapping says of it (proofs/Pairing).
 -- Assumes nothing.
 use Rattle.mapping.proofs.Pairing.{lasts-few, passable-left, passable-right, paired}
 use borrow.Author.Needs.{needs}

@@ -1,3 +1,4 @@
+-- The invariant: r counts the components with a reticulation among those with the first v tops.
 -- Assumes nothing.
 use Rattle.finite.specs.Tests.{tally}
 use Prim.Native.Nat.{ℕ}

@@ -1,3 +1,4 @@
+-- 1 for a number that is not 0: the test of the two ways out.
 -- Assumes nothing.
 use borrow.Author.Needs.{needs}
 use Rattle.finite.proofs.Tests.{is-same, not-same}

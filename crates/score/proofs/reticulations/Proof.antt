@@ -1,3 +1,4 @@
+-- The invariant: r counts the reticulations among the first v nodes.
 -- Assumes nothing.
 use borrow.Author.Needs.{needs}
 use Rattle.layout.proofs.Numbered.{secondary-in}

@@ -1,3 +1,4 @@
+-- The call: each way out has its outcome, and the promise follows from that.
 -- Assumes nothing.
 use Rattle.score.proofs.Outcomes.{words-refused, bytes-refused, header-outcome}
 use Rattle.score.proofs.Promises.{promise}

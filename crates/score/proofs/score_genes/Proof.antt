@@ -1,3 +1,4 @@
+-- A refusal of the gene tree is the first that applies, since those of the network have passed; a family without one is written.
 -- Assumes nothing.
 use Rattle.network.proofs.Acceptance.{no-others}
 use mathlib.Core.Path.{sym, _∙_}

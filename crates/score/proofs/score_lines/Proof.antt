@@ -1,3 +1,4 @@
+-- A sheet whose header is within the limits: 5 where the length or a later line is amiss, else the outcome of its lines.
 -- Assumes nothing.
 use native.Mathlib.Omega.{arith}
 use Rattle.score.proofs.Outcomes.{header-is, not-whole, nodes-amiss, genes-amiss, all-well, sized, five-passed, five-refused}

@@ -1,3 +1,4 @@
+-- A refusal of the network is the first of the curators'; a network without one goes on to its components.
 -- Assumes nothing.
 use Rattle.network.proofs.Acceptance.{no-others}
 use Rattle.score.proofs.Outcomes.{refuses}

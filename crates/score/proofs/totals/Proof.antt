@@ -1,3 +1,4 @@
+-- The numbers of the first two lines: those that were found, and the two counts.
 -- Assumes nothing.
 use Rattle.score.specs.Stages.{totalsBy}
 use borrow.Author.Needs.{needs}

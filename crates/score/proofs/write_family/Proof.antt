@@ -1,3 +1,4 @@
+-- The gene tree is filled, and the family is worked out with it.
 -- Assumes nothing.
 use Rattle.tables.specs.Columns.{blank}
 use mathlib.Core.Path.{refl}

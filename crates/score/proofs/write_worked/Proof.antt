@@ -1,3 +1,4 @@
+-- The search, the whole network and the report ask what the verdicts and the tables give, and what they leave is the outcome (proofs/Reports).
 -- Assumes nothing.
 use Rattle.tables.specs.Columns.{blank}
 use mathlib.Core.Path.{refl}

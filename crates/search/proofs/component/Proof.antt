@@ -1,3 +1,5 @@
+-- The settings of one component. The invariant: the state is the machine's after the settings below `setting`; with none left the component is
+-- finished.
 -- Assumes nothing.
 use native.Mathlib.Omega.{arith}
 use mathlib.Core.Path.{_≡_, refl, _∙_}

@@ -1,3 +1,5 @@
+-- The tree is turned to the settings of the column and the genes are mapped into it, so the score is that of the switching put together from the
+-- column.
 -- Assumes nothing.
 use Rattle.search.proofs.Turns.{family-held, assembly}
 use borrow.Author.Needs.{needs}

@@ -1,3 +1,5 @@
+-- The steps reach the machine's last state (proofs/Steps); the switching of its bests is then evaluated, and crate optimum says that it is the
+-- cheapest (proofs/Assembling).
 -- Assumes nothing.
 use Rattle.search.proofs.Turns.{works-first, searched}
 use borrow.Author.Needs.{needs}

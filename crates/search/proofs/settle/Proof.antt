@@ -1,3 +1,4 @@
+-- A setting that was found to cost this. Each way out is one case of `takes`.
 -- Assumes nothing.
 use mathlib.Core.Path.{sym, _∙_}
 use Rattle.search.proofs.Settled.{settled-taken, settled-kept}

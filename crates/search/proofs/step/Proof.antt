@@ -1,3 +1,5 @@
+-- One step of the machine: only the component being scored has a setting other than 0, so what is evaluated is the trial of 01 (proofs/Turns,
+-- proofs/Settled).
 -- Assumes nothing.
 use native.Mathlib.Omega.{arith}
 use Rattle.search.proofs.Turns.{step-fits, step-settles, step-reaches, works}

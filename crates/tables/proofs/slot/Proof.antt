@@ -1,6 +1,6 @@
-use borrow.Author.Needs.{needs}
 -- `tables::slot` meets its contract. Each return is one case of the definition.
 -- Assumes nothing.
+use borrow.Author.Needs.{needs}
 use Rattle.tables.proofs.Nexts.{slots}
 use Rattle.tables.proofs.slot.Statement.{statement}
 use Rattle.tables.proofs.slot.Tie as tie

@@ -33,17 +33,6 @@ element-write-marks c = search needs
 principal-requires : tie.Need-principal-requires Inv-loop μ-loop
 principal-requires c κs = search needs
 
-loop-less : tie.Need-loop-less Inv-loop μ-loop
-loop-less c =
-    let s = c .before .before .before .before .before .before .pre .1 in
-    let i = c .before .before .before .before .before .loop .inv in
-    let d = c .before .before .before .before .loop-test .taken in
-    let ra = c .before .before .before .rank .ensures in
-    let rb = c .before .before .rank2 .ensures in
-    let u = c .before .if1 .taken in
-    let p = c .principal .ensures in
-    less-right _ _ _ (s .0) (s .1) _ _ _ _ _ (i .0) (i .1) ra rb u d p
-
 loop-again : tie.Need-loop-again Inv-loop μ-loop
 loop-again c =
     let s = c .before .before .before .before .before .before .pre .1 in
@@ -55,6 +44,17 @@ loop-again c =
     let p = c .principal .ensures in
     (i .0, in-right _ _ _ (s .0) (s .1) _ _ _ _ _ (i .0) (i .1) ra rb u d p, turn-right _ _ _ (s .0) (s .1) _ _ _ _ _ _ _ _ _ (i .2) (i .0) (i .1) ra rb u d p (search needs))
 
+loop-less : tie.Need-loop-less Inv-loop μ-loop
+loop-less c =
+    let s = c .before .before .before .before .before .before .pre .1 in
+    let i = c .before .before .before .before .before .loop .inv in
+    let d = c .before .before .before .before .loop-test .taken in
+    let ra = c .before .before .before .rank .ensures in
+    let rb = c .before .before .rank2 .ensures in
+    let u = c .before .if1 .taken in
+    let p = c .principal .ensures in
+    less-right _ _ _ (s .0) (s .1) _ _ _ _ _ (i .0) (i .1) ra rb u d p
+
 mul-marks-2 : tie.Need-mul-marks-2 Inv-loop μ-loop
 mul-marks-2 c = search needs
 
@@ -63,17 +63,6 @@ element-write-marks-2 c = search needs
 
 principal-requires-2 : tie.Need-principal-requires-2 Inv-loop μ-loop
 principal-requires-2 c κs = search needs
-
-loop-less-2 : tie.Need-loop-less-2 Inv-loop μ-loop
-loop-less-2 c =
-    let s = c .before .before .before .before .before .before .pre .1 in
-    let i = c .before .before .before .before .before .loop .inv in
-    let d = c .before .before .before .before .loop-test .taken in
-    let ra = c .before .before .before .rank .ensures in
-    let rb = c .before .before .rank2 .ensures in
-    let u = c .before .if1 .left in
-    let p = c .principal2 .ensures in
-    less-left _ _ _ (s .0) (s .1) _ _ _ _ _ (i .0) (i .1) ra rb u d p
 
 loop-again-2 : tie.Need-loop-again-2 Inv-loop μ-loop
 loop-again-2 c =
@@ -85,6 +74,17 @@ loop-again-2 c =
     let u = c .before .if1 .left in
     let p = c .principal2 .ensures in
     (in-left _ _ _ (s .0) (s .1) _ _ _ _ _ (i .0) (i .1) ra rb u d p, i .1, turn-left _ _ _ (s .0) (s .1) _ _ _ _ _ _ _ _ _ (i .2) (i .0) (i .1) ra rb u d p (search needs))
+
+loop-less-2 : tie.Need-loop-less-2 Inv-loop μ-loop
+loop-less-2 c =
+    let s = c .before .before .before .before .before .before .pre .1 in
+    let i = c .before .before .before .before .before .loop .inv in
+    let d = c .before .before .before .before .loop-test .taken in
+    let ra = c .before .before .before .rank .ensures in
+    let rb = c .before .before .rank2 .ensures in
+    let u = c .before .if1 .left in
+    let p = c .principal2 .ensures in
+    less-left _ _ _ (s .0) (s .1) _ _ _ _ _ (i .0) (i .1) ra rb u d p
 
 returns : tie.Need-returns Inv-loop μ-loop
 returns c = let s = c .before .before .pre .1 in way-end _ _ _ (s .0) (s .1) _ _ _ _ _ _ (c .before .loop .inv .2) (search needs)
