@@ -8,14 +8,14 @@ use native.Mathlib.Omega.{arith}
 use Rattle.finite.specs.Range.{count, children}
 use Rattle.topology.specs.Networks.{Network, Node, Sound, isReticulation, reticulations}
 use Rattle.topology.specs.Switchings.{Switching, parent}
-use Rattle.topology.specs.Components.{component, members}
+use Rattle.topology.specs.Components.{component, reticulationCount}
 use Rattle.topology.specs.Lines.{NodeLines, GeneLines, network}
 use Rattle.topology.proofs.Above.{parent-cases, byNode}
 use Rattle.shapes.specs.Refusals.{Shape, IsLeaf, reticulation, inner, leaf}
 use Rattle.network.specs.Accepted.{AcceptedNetwork}
 use Rattle.network.proofs.Acceptance.{accepted}
 use Rattle.network.proofs.Bounds.{accepted-reticulations}
-use Rattle.components.proofs.Readings.{few-members, components-accepted}
+use Rattle.components.proofs.Readings.{few-reticulations, components-accepted}
 use Rattle.reconciliation.specs.GeneTrees.{GeneTree, Rooted, Seated}
 use Rattle.reconciliation.specs.Costs.{Costs}
 use Rattle.reconciliation.specs.Limits.{Limits}
@@ -56,7 +56,7 @@ module _ (L : NodeLines) (K : GeneLines) (C : Costs) (ok : Admitted L K C) where
   sound = network-accepted .sound
 
   pub rooted : Rooted G
-  rooted = T.rooted L K (ok .some-gene) (accept-12 L K (ok .genes))
+  rooted = T.rooted L K (ok .limits .some-gene) (accept-12 L K (ok .genes))
 
   gene : (g : ℕ) → 1 ≤ g → g ≤ G .count → Gene K g
   gene g l u = record { low = l; high = omega (arith, count-at L K) }
@@ -87,14 +87,8 @@ module _ (L : NodeLines) (K : GeneLines) (C : Costs) (ok : Admitted L K C) where
     few = λ v k. few-arcs N v (network-accepted .shape v k);
   }
 
-  pub limits : Limits N G C
-  limits = record {
-    nodes = omega (arith, size-is, ok .few-nodes);
-    genes = omega (arith, count-at L K, ok .few-genes);
-    duplication = ok .duplication;
-    transfer = ok .transfer;
-    loss = ok .loss;
-  }
+  pub limits : Limits (N .size) (G .count) C
+  limits = rw (size-is, count-at L K) (ok .limits)
 
   -- no switching of the whole network is cheaper than the one chosen, and none that is as cheap comes before it
   pub optimal : Optimal N G C (chosen N G C)
@@ -114,18 +108,18 @@ module _ (L : NodeLines) (K : GeneLines) (C : Costs) (ok : Admitted L K C) where
   losses-small = few-losses N sound G rooted seated C limits (chosen N G C)
 
   -- no component has more than 8 reticulations, fewer than half of the nodes are reticulations, and the trials are no more than 2,016
-  pub members-few : (c : ℕ) → members N c ≤ 8
-  members-few = few-members N sound (components-accepted L (ok .component))
+  pub component-few : (c : ℕ) → reticulationCount N c ≤ 8
+  component-few = few-reticulations N sound (components-accepted L (ok .component))
 
   pub reticulations-few : 2 * reticulations N < L .size
   reticulations-few = accepted-reticulations L network-accepted
 
   pub reticulations-small : count (L .size) (isReticulation N) ≤ 63
   unfolding network reticulations
-  reticulations-small = omega (arith, ok .few-nodes, reticulations-few)
+  reticulations-small = omega (arith, ok .limits .few-nodes, reticulations-few)
 
   pub trials-few : trials N ≤ 2016
-  trials-few = few-trials N (limits .nodes) (λ c _ _. members-few c) (omega (arith, size-is, reticulations-few))
+  trials-few = few-trials N (limits .few-nodes) (λ c _ _. component-few c) (omega (arith, size-is, reticulations-few))
 
   pub trials-small : trials N < 1000000
   trials-small = omega (arith, trials-few)
@@ -133,8 +127,8 @@ module _ (L : NodeLines) (K : GeneLines) (C : Costs) (ok : Admitted L K C) where
   -- the parent of any number under a switching is a node, or 0
   pub parent-small : (σ : Switching) (v : ℕ) → parent N σ v ≤ 127
   parent-small σ v = parent-cases N σ v
-      (λ e. byNode N sound v (λ k. omega (arith, e, limits .nodes, sound .in-principal v k)) (λ z _. omega (arith, e)))
-      (λ _ e. byNode N sound v (λ k. omega (arith, e, limits .nodes, sound .in-secondary v k)) (λ _ z. omega (arith, e)))
+      (λ e. byNode N sound v (λ k. omega (arith, e, limits .few-nodes, sound .in-principal v k)) (λ z _. omega (arith, e)))
+      (λ _ e. byNode N sound v (λ k. omega (arith, e, limits .few-nodes, sound .in-secondary v k)) (λ _ z. omega (arith, e)))
 
   -- a gene's line in the report, under any switching
   module _ (σ : Switching) (g : ℕ) (lg : 1 ≤ g) (ug : g ≤ K .count) where
@@ -145,13 +139,13 @@ module _ (L : NodeLines) (K : GeneLines) (C : Costs) (ok : Admitted L K C) where
     place-in = place-node N sound σ G rooted seated g lg in-count
 
     pub place-small : place N G σ g ≤ 127
-    place-small = omega (arith, limits .nodes, place-in .high)
+    place-small = omega (arith, limits .few-nodes, place-in .high)
 
     pub event-few : event N G σ g ≤ 3
     event-few = event-small N sound σ G rooted seated g
 
     pub gene-transfers-small : transfers N G σ g < 1000000
-    gene-transfers-small = omega (arith, limits .nodes, transfers-le N sound σ G rooted seated g)
+    gene-transfers-small = omega (arith, limits .few-nodes, transfers-le N sound σ G rooted seated g)
 
     pub gene-losses-small : losses N G σ g < 1000000
-    gene-losses-small = omega (arith, limits .nodes, losses-le N sound σ G rooted seated g)
+    gene-losses-small = omega (arith, limits .few-nodes, losses-le N sound σ G rooted seated g)

@@ -17,7 +17,6 @@ use Rattle.finite.proofs.Count.{count-zero}
 use Rattle.tables.specs.Columns.{written, Clear, Kept}
 use Rattle.tables.proofs.Columns.{long, write-here, write-row, kept-write, kept-then}
 use Rattle.topology.specs.Networks.{Network, Node, Sound}
-use Rattle.topology.specs.Switchings.{height}
 use Rattle.topology.specs.Lines.{network}
 use Rattle.topology.proofs.Above.{fall-principal, fall-secondary}
 use Rattle.layout.specs.Lines.{principal, secondary, nodesIn}
@@ -127,7 +126,7 @@ visited-then {out} {out₁} {out₂} A B = record {
   kept = kept-then orderColumn out out₁ out₂ (A .kept) (B .kept);
 }
 
--- the parents of node v in the lines: they are nodes or 0, their height is less, and once both are visited v is due
+-- the parents of node v in the lines: they are nodes or 0, their rank is less, and once both are visited v is due
 module _ (n v : ℕ) (lines : List ℕ) (high : v ≤ n) (some : v ≢ 0) (ok : Sound (networkIn n lines)) where
   node-v : Node (networkIn n lines) v
   unfolding network nodesIn
@@ -149,13 +148,12 @@ module _ (n v : ℕ) (lines : List ℕ) (high : v ≤ n) (some : v ≢ 0) (ok : 
   unfolding network nodesIn
   secondary-high p e = rw (secondary-is p e) at (ok .in-secondary v node-v)
 
-  pub principal-falls : (p t : ℕ) → p ≡ principal lines v → height (networkIn n lines) v ≡ t → height (networkIn n lines) p < t
+  pub principal-falls : (p t : ℕ) → p ≡ principal lines v → networkIn n lines .rank v ≡ t → networkIn n lines .rank p < t
   principal-falls p t e q = rw (principal-is p e, q) at (fall-principal (networkIn n lines) ok v some)
 
-  pub secondary-falls : (p t : ℕ) → p ≡ secondary lines v → height (networkIn n lines) v ≡ t → height (networkIn n lines) p < t
-  unfolding height
+  pub secondary-falls : (p t : ℕ) → p ≡ secondary lines v → networkIn n lines .rank v ≡ t → networkIn n lines .rank p < t
   secondary-falls p t e q = byEq p 0
-      (λ z. rw (← q, z, is-same {m = 0} refl, not-same some) (omega arith))
+      (λ z. rw (← q, z, ok .rank-none) (ok .rank-some v some))
       (λ d. rw (secondary-is p e, q) at (fall-secondary (networkIn n lines) ok v (λ z. d (sym (secondary-is p e) ∙ z))))
 
   pub due : {p s : ℕ} {out walk out₁ walk₁ out₂ walk₂ : List ℕ} → p ≡ principal lines v → s ≡ secondary lines v → Visited (networkIn n lines) p out walk out₁ walk₁ → Visited (networkIn n lines) s out₁ walk₁ out₂ walk₂ → Due (networkIn n lines) v walk₂

@@ -7,7 +7,7 @@ use tables::wide;
 ghost use mathlib.Core.Path.{_≡_};
 ghost use Prim.Native.Nat.{ℕ, _+_, _≤_};
 ghost use lib.ListN.{length};
-ghost use Rattle.layout.specs.Headers.{Limits};
+ghost use Rattle.layout.specs.Headers.{WithinLimits};
 ghost use Rattle.histories.specs.Histories.{_⊓_, then, both, resting, leaf, leastOver};
 ghost use Rattle.histories.specs.Words.{costOf};
 ghost use Rattle.histories.specs.Rows.{row, costAt, Cell};
@@ -103,7 +103,7 @@ fn carried(g: &[u32], x: usize, z: usize, t: usize, l: usize) -> usize
 
 // The least cost of a leaf gene of this species, with the row g, at v: it rests, or it moves on.
 pub fn tip_cost(h: Header, g: &[u32], species: usize, v: usize, lines: &Lines, arcs: &Arcs) -> usize
-    requires { ⌜ Limits h × (v ≤ 127) × Ends (now arcs) v (now g) ⌝ }
+    requires { ⌜ WithinLimits h × (v ≤ 127) × Ends (now arcs) v (now g) ⌝ }
     ensures { λ r. ⌜ costIn r ≡ tipIn h species (now (lines .entry)) (now (arcs .entry)) (now (g .entry)) v ⌝ }
 {
     let x = arcs::first(arcs, v);
@@ -123,7 +123,7 @@ pub fn tip_cost(h: Header, g: &[u32], species: usize, v: usize, lines: &Lines, a
 
 // The least cost of an inner gene with the row g, whose children have the rows a and b, at v: both children start there, or they part, or it moves on.
 pub fn inner_cost(h: Header, a: &[u32], b: &[u32], g: &[u32], v: usize, arcs: &Arcs) -> usize
-    requires { ⌜ Limits h × (v ≤ 127) × Ends (now arcs) v (now g) × Children (now arcs) v (now a) (now b) ⌝ }
+    requires { ⌜ WithinLimits h × (v ≤ 127) × Ends (now arcs) v (now g) × Children (now arcs) v (now a) (now b) ⌝ }
     ensures { λ r. ⌜ ((s : ℕ) → costIn r ≡ innerIn h s (now (arcs .entry)) (now (a .entry)) (now (b .entry)) (now (g .entry)) v) ⌝ }
 {
     let here = after_both(wide(h.duplication), a, v, b, v);

@@ -13,6 +13,7 @@ use native.Mathlib.Numerals.{add-one}
 use native.Mathlib.Omega.{arith}
 use borrow.Author.Tests.{eq-eqb, ne-eqb, eqb-true, eqb-false}
 use borrow.Rule.Slice.PartMut.{putMid}
+use Rattle.finite.proofs.Tables.{replicate-at}
 use Rattle.finite.proofs.Cases.{byBool, byEq}
 use Rattle.columns.specs.Fields.{columns, six, spells, fieldAt, FieldIs}
 use Rattle.columns.specs.Lines.{fieldCount, lineLength, fieldsOf, lineOf, Small, Reading, malformed, endAt, andThen, restAt, lineAt, LineIs, written, put}
@@ -284,14 +285,9 @@ malformed-rest (suc k) s at ns e = go (fieldAt s at) (λ q n. malformed-rest k s
     go (Number n c) ih d = ih (c .at) n d
     go noNumber ih d = refl
 
-zeros-at : (k i : ℕ) → _≡_ {A = ℕ} (getD (replicate k 0) i 0) 0
-zeros-at zero i = refl
-zeros-at (suc k) zero = refl
-zeros-at (suc k) (suc i) = zeros-at k i
-
 pub malformed-zero : (s : List ℕ) (at i : ℕ) → lineAt s at .end ≡ Malformed → getD (lineAt s at .line) i 0 ≡ 0
 unfolding lineAt malformed
-malformed-zero s at i e = rw (malformed-rest fieldCount s at [] e) (zeros-at fieldCount i)
+malformed-zero s at i e = rw (malformed-rest fieldCount s at [] e) (replicate-at fieldCount i)
 
 pub small-read : (s : List ℕ) (at : ℕ) → Small (lineAt s at .line)
 small-read s at = go (lineAt s at .end) refl (line-is s at)

@@ -18,13 +18,14 @@ use Rattle.finite.proofs.Every.{some-turn, some-stop, some-done}
 use Rattle.tables.specs.Columns.{entry, written, column, blank, Clear}
 use Rattle.tables.proofs.Columns.{long, write-here, write-row, write-column, column-in, column-out, column-zero, column-keeps, column-clear, blank-clear}
 use Rattle.topology.specs.Networks.{Network, Node, Sound, Reticulation}
-use Rattle.topology.specs.Switchings.{height}
-use Rattle.topology.specs.Components.{component, memberOf, members, indexOf}
+use Rattle.topology.specs.Components.{component, memberOf, reticulationCount, indexOf}
 use Rattle.topology.specs.Lines.{rankOf, network}
+use Rattle.topology.proofs.Lines.{rank-none, rank-is as lines-rank}
 use Rattle.topology.proofs.Above.{reticulation-node}
 use Rattle.topology.proofs.Components.{component-node, member-is, is-member}
 use Rattle.layout.specs.Lines.{secondary, stamp, nodesIn}
-use Rattle.layout.specs.Parts.{rankColumn, rank, topColumn, top, reticulationCountColumn, reticulationCount, indexColumn, index, Parted}
+use Rattle.layout.specs.Parts.{rankColumn, rank, topColumn, top, reticulationCountColumn, indexColumn, index, Parted}
+use Rattle.layout.specs.Parts as Parts
 use Rattle.layout.proofs.Numbered.{secondary-in, stamp-in}
 use Rattle.components.specs.Refusals.{crowdedAt, refusal11}
 use Rattle.components.specs.Ways.{Ranked}
@@ -72,7 +73,7 @@ module _ {N : Network} (ok : Sound N) where
     }
 
     pub parted-end : v ≤ size → size ≤ v → Parted N t
-    unfolding members
+    unfolding reticulationCount
     parted-end a b = let e : v ≡ size = omega arith in record {
       long = P .long;
       ranks = P .ranks;
@@ -97,7 +98,7 @@ module _ {N : Network} (ok : Sound N) where
         pub top-fits : c ≤ 127
         top-fits = omega (arith, top-node .high)
 
-        module _ {k : ℕ} (ek : k ≡ reticulationCount t c) where
+        module _ {k : ℕ} (ek : k ≡ Parts.reticulationCount t c) where
           counted : k ≡ count v (memberOf N c)
           counted = ek ∙ P .counts c top-node
 
@@ -128,12 +129,12 @@ module _ {N : Network} (ok : Sound N) where
             rows : (j w : ℕ) → w ≢ v + 1 → w ≢ c → entry u j w ≡ entry t j w
             rows j w a b = rw eu (write-row s reticulationCountColumn c (k + 1) lc j w b ∙ rw es (write-row t indexColumn (v + 1) k lv j w a))
 
-            count-of : (w : ℕ) → Node N w → reticulationCount u w ≡ count (v + 1) (memberOf N w)
+            count-of : (w : ℕ) → Node N w → Parts.reticulationCount u w ≡ count (v + 1) (memberOf N w)
             count-of w q = byEq w c
                 (λ e. rw (e, eu) (write-here s reticulationCountColumn c (k + 1) lc (omega (arith, s-long)) ∙ ap (λ (m : ℕ). m + 1) counted
                 ∙ count-hit v (memberOf N c) (is-member N c (v + 1) d (sym top-is))))
-                (λ a. ap (λ (y : List ℕ). reticulationCount y w) eu ∙ write-row s reticulationCountColumn c (k + 1) lc reticulationCountColumn w a
-                ∙ ap (λ (y : List ℕ). reticulationCount y w) es ∙ write-column t indexColumn (v + 1) k lv reticulationCountColumn w (λ e. omega arith)
+                (λ a. ap (λ (y : List ℕ). Parts.reticulationCount y w) eu ∙ write-row s reticulationCountColumn c (k + 1) lc reticulationCountColumn w a
+                ∙ ap (λ (y : List ℕ). Parts.reticulationCount y w) es ∙ write-column t indexColumn (v + 1) k lv reticulationCountColumn w (λ e. omega arith)
                 ∙ P .counts w q ∙ count-miss v (memberOf N w) (not-member w (v + 1) (λ _ e. a (sym e ∙ sym top-is))))
 
             index-of : (r : ℕ) → Reticulation N r → r ≤ v + 1 → index u r ≡ indexOf N r
@@ -158,13 +159,9 @@ module _ (n : ℕ) (l : List ℕ) (few : n ≤ 127) where
   abbrev N : Network
   N = network (nodesIn n l)
 
-  rank-is : (v : ℕ) → 1 ≤ v → v ≤ n → rankAt l v ≡ height N v
-  unfolding rankAt height network
-  rank-is v a b = rw (not-same {m = v} {n = 0} (λ e. omega arith), secondary-in n l v a b, stamp-in n l v a b)
-
-  rank-none : height N 0 ≡ 0
-  unfolding height
-  rank-none = rw (is-same {m = 0} refl)
+  rank-is : (v : ℕ) → 1 ≤ v → v ≤ n → rankAt l v ≡ N .rank v
+  unfolding rankAt
+  rank-is v a b = rw (lines-rank (nodesIn n l) v (λ e. omega arith), secondary-in n l v a b, stamp-in n l v a b)
 
   abbrev first : List ℕ
   first = column rankColumn n blank (rankAt l)
@@ -181,9 +178,9 @@ module _ (n : ℕ) (l : List ℕ) (few : n ≤ 127) where
   first-clear : (k : ℕ) → k < 4 → k ≢ rankColumn → Clear k first
   first-clear k u d = column-clear rankColumn blank (rankAt l) n k low d (clear k u)
 
-  first-ranks : (v : ℕ) → v ≤ n → rank first v ≡ height N v
+  first-ranks : (v : ℕ) → v ≤ n → rank first v ≡ N .rank v
   first-ranks v u = byEq v 0
-      (λ e. rw e (column-zero rankColumn blank (rankAt l) n rankColumn low ∙ clear rankColumn (omega arith) .none 0 ∙ sym rank-none))
+      (λ e. rw e (column-zero rankColumn blank (rankAt l) n rankColumn low ∙ clear rankColumn (omega arith) .none 0 ∙ sym (rank-none (nodesIn n l))))
       (λ d. column-in rankColumn blank (rankAt l) n v low (omega arith) u (omega (arith, clear rankColumn (omega arith) .long)) ∙ rank-is v (omega arith) u)
 
   second-clear : (k : ℕ) → k < 4 → k ≢ rankColumn → k ≢ topColumn → Clear k second
@@ -223,8 +220,8 @@ module _ (n : ℕ) (l : List ℕ) (few : n ≤ 127) where
   size-few = few
 
   -- the turns of the loop that asks the counts: k is the count of node v + 1
-  module _ (t : List ℕ) (P : Parted N t) (v k : ℕ) (u : v < n) (e : k ≡ reticulationCount t (v + 1)) where
-    count-is : k ≡ members N (v + 1)
+  module _ (t : List ℕ) (P : Parted N t) (v k : ℕ) (u : v < n) (e : k ≡ Parts.reticulationCount t (v + 1)) where
+    count-is : k ≡ reticulationCount N (v + 1)
     unfolding network nodesIn
     count-is = e ∙ P .counts (v + 1) (record { low = omega arith; high = omega arith })
 

@@ -13,7 +13,7 @@ use Rattle.finite.proofs.Tests.{is-under, under-is, test-iff}
 use Rattle.finite.proofs.Every.{some-at, is-some}
 use Rattle.finite.proofs.Count.{count-find, count-same}
 use Rattle.topology.specs.Networks.{Network, Node, Sound, Reticulation}
-use Rattle.topology.specs.Components.{Linked, component, memberOf, members}
+use Rattle.topology.specs.Components.{Linked, component, memberOf, reticulationCount}
 use Rattle.topology.specs.Lines.{NodeLines, network}
 use Rattle.topology.proofs.Above.{reticulation-node}
 use Rattle.topology.proofs.Components.{member-is, is-member, component-node}
@@ -21,21 +21,21 @@ use Rattle.topology.proofs.CutArcs.{linked-iff}
 use Rattle.components.specs.Refusals.{crowdedAt, refusal11, Refusal11, componentRefusals}
 
 module _ (N : Network) (ok : Sound N) where
-  -- the reticulations that a node is linked with are the members of its component
+  -- the reticulations that a node is linked with are the reticulations of its component
   pub member-iff : (v r : ℕ) → Node N v → (memberOf N (component N v) r ≡ true) ↔ (Reticulation N r × Linked N v r)
   member-iff v r k = (
     (λ t. let m = member-is N (component N v) r t in (m .0, linked-iff N ok v r k (reticulation-node N ok r (m .0)) .1 (sym (m .1)))),
     λ m. is-member N (component N v) r (m .0) (sym (linked-iff N ok v r k (reticulation-node N ok r (m .0)) .0 (m .1))),
   )
 
-  -- so a test that tells the reticulations linked with v counts the members of v's component
-  pub members-count : (v : ℕ) → Node N v → (inside : ℕ → Bool) → ((r : ℕ) → (inside r ≡ true) ↔ (Reticulation N r × Linked N v r)) → count (N .size) inside ≡ members N (component N v)
-  unfolding members
-  members-count v k inside h = count-same (N .size) inside (memberOf N (component N v)) (λ r _ _. test-iff (inside r) (memberOf N (component N v) r) (λ t. member-iff v r k .1 (h r .0 t)) (λ t. h r .1 (member-iff v r k .0 t)))
+  -- so a test that tells the reticulations linked with v counts the reticulations of v's component
+  pub reticulations-counted : (v : ℕ) → Node N v → (inside : ℕ → Bool) → ((r : ℕ) → (inside r ≡ true) ↔ (Reticulation N r × Linked N v r)) → count (N .size) inside ≡ reticulationCount N (component N v)
+  unfolding reticulationCount
+  reticulations-counted v k inside h = count-same (N .size) inside (memberOf N (component N v)) (λ r _ _. test-iff (inside r) (memberOf N (component N v) r) (λ t. member-iff v r k .1 (h r .0 t)) (λ t. h r .1 (member-iff v r k .0 t)))
 
-  -- a component of more than 8 members is the class of one of them
-  pub crowded-is : (c : ℕ) → 8 < members N c → Refusal11 N
-  unfolding members
+  -- a component of more than 8 reticulations is the class of one of them
+  pub crowded-is : (c : ℕ) → 8 < reticulationCount N c → Refusal11 N
+  unfolding reticulationCount
   crowded-is c l = let f = count-find (N .size) (memberOf N c) (omega arith) in
       let m = member-is N c (f .0) (f .3) in
       let k = reticulation-node N ok (f .0) (m .0) in
@@ -43,18 +43,18 @@ module _ (N : Network) (ok : Sound N) where
 
   from-11 : refusal11 N ≡ true → Refusal11 N
   unfolding refusal11 crowdedAt
-  from-11 h = let c = some-at (N .size) (crowdedAt N) h in crowded-is (c .0) (under-is 8 (members N (c .0)) (c .3))
+  from-11 h = let c = some-at (N .size) (crowdedAt N) h in crowded-is (c .0) (under-is 8 (reticulationCount N (c .0)) (c .3))
 
   to-11 : Refusal11 N → refusal11 N ≡ true
   unfolding refusal11 crowdedAt
   to-11 r = let k = component-node N ok (r .node) (r .is-node) in
-      is-some (N .size) (component N (r .node)) (crowdedAt N) (k .low) (k .high) (is-under (omega (arith, r .more, members-count (r .node) (r .is-node) (r .inside) (r .inside-iff))))
+      is-some (N .size) (component N (r .node)) (crowdedAt N) (k .low) (k .high) (is-under (omega (arith, r .more, reticulations-counted (r .node) (r .is-node) (r .inside) (r .inside-iff))))
 
   pub reading-11 : (refusal11 N ≡ true) ↔ Refusal11 N
   reading-11 = (from-11, to-11)
 
-  pub few-members : refusal11 N ≡ false → (c : ℕ) → members N c ≤ 8
-  few-members h c = byLess 8 (members N c) (λ l. clash (to-11 (crowded-is c l)) h) (λ u. u)
+  pub few-reticulations : refusal11 N ≡ false → (c : ℕ) → reticulationCount N c ≤ 8
+  few-reticulations h c = byLess 8 (reticulationCount N c) (λ l. clash (to-11 (crowded-is c l)) h) (λ u. u)
 
 module _ (L : NodeLines) where
   pub components-tell : Sound (network L) → AllTell (componentRefusals L)

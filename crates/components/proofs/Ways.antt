@@ -18,7 +18,7 @@ use Rattle.finite.proofs.Tests.{is-same, not-same, is-beq, test-iff, or-yes-r, 
 use Rattle.finite.proofs.Every.{some-at, is-every, not-some}
 use Rattle.finite.proofs.Tables.{zeros-long, zeros-at}
 use Rattle.topology.specs.Networks.{Network, Node, Sound, Reticulation, isReticulation}
-use Rattle.topology.specs.Switchings.{allPrincipal, height, above}
+use Rattle.topology.specs.Switchings.{allPrincipal, above}
 use Rattle.topology.specs.Components.{isTop, component}
 use Rattle.topology.specs.Lines.{network}
 use Rattle.topology.proofs.Climbing.{low-some}
@@ -70,7 +70,7 @@ module _ (N : Network) (ok : Sound N) where
   between-sym a b w = byBool (above N allPrincipal w a) (λ p. byBool (above N allPrincipal w b) (λ q. rw (p, q)) (λ q. rw (p, q))) (λ p. byBool (above N allPrincipal w b) (λ q. rw (p, q)) (λ q. rw (p, q)))
 
   -- one step from the node of larger rank
-  pub between-left : (a b w : ℕ) → height N b ≤ height N a → a ≢ b → between N a b w ≡ (same w a || between N (N .principal a) b w)
+  pub between-left : (a b w : ℕ) → N .rank b ≤ N .rank a → a ≢ b → between N a b w ≡ (same w a || between N (N .principal a) b w)
   unfolding between
   between-left a b w l d = byEq w a
       (λ e. rw (e, above-self N ok allPrincipal a, apart, is-same {m = a} refl))
@@ -102,12 +102,12 @@ module _ (n : ℕ) (l t : List ℕ) (ok : Sound (network (nodesIn n l))) (R : Ra
 
   -- a step from the node of larger rank
   module _ (a b ha hb p : ℕ) (ia : a ≤ n) (ib : b ≤ n) (ea : ha ≡ rank t a) (eb : hb ≡ rank t b) (u : hb ≤ ha) (d : a ≢ b) (e : p ≡ principal l a) where
-    low : height N b ≤ height N a
+    low : N .rank b ≤ N .rank a
     unfolding network nodesIn
     low = omega (arith, R .ranks a ia, R .ranks b ib)
 
     some-node : a ≢ 0
-    some-node = low-some (height N) (N .principal) (falls-principal N ok) a b low d
+    some-node = low-some (N .rank) (N .principal) (falls-principal N ok) a b low d
 
     step-is : p ≡ N .principal a
     unfolding network
@@ -117,7 +117,7 @@ module _ (n : ℕ) (l t : List ℕ) (ok : Sound (network (nodesIn n l))) (R : Ra
     unfolding network nodesIn
     step-in = let z = some-node in rw step-is (ok .in-principal a (record { low = omega arith; high = ia }))
 
-    step-falls : height N p < height N a
+    step-falls : N .rank p < N .rank a
     step-falls = rw step-is (fall-principal N ok a some-node)
 
     step-marks : (m : List ℕ) → a < length m → (w : ℕ) → (marked (set m a 1) w || between N p b w) ≡ (marked m w || between N a b w)
@@ -150,10 +150,10 @@ module _ (n : ℕ) (l t : List ℕ) (ok : Sound (network (nodesIn n l))) (R : Ra
     pub in-right : ha < hb → (a ≡ b → ⊥) → p ≡ principal l b → p ≤ n
     in-right u d e = step-in b a hb ha p ib ia eb ea (omega arith) (λ q. d (sym q)) e
 
-    pub less-left : hb ≤ ha → (a ≡ b → ⊥) → p ≡ principal l a → height N p + height N b < height N a + height N b
+    pub less-left : hb ≤ ha → (a ≡ b → ⊥) → p ≡ principal l a → N .rank p + N .rank b < N .rank a + N .rank b
     less-left u d e = omega (arith, step-falls a b ha hb p ia ib ea eb u d e)
 
-    pub less-right : ha < hb → (a ≡ b → ⊥) → p ≡ principal l b → height N a + height N p < height N a + height N b
+    pub less-right : ha < hb → (a ≡ b → ⊥) → p ≡ principal l b → N .rank a + N .rank p < N .rank a + N .rank b
     less-right u d e = omega (arith, step-falls b a hb ha p ib ia eb ea (omega arith) (λ q. d (sym q)) e)
 
 -- one reticulation more, and all
@@ -228,7 +228,7 @@ module _ (n : ℕ) (l marks : List ℕ) (ok : Sound (network (nodesIn n l))) (to
       unfolding network
       up = e ∙ sym (principal-in n l a la ua)
 
-      pub up-less : height K p < height K a
+      pub up-less : K .rank p < K .rank a
       up-less = rw up (fall-principal K ok a (omega (arith, la)))
 
       module _ (d : at marks a ≡ 0 → ⊥) where

@@ -2,12 +2,11 @@
 -- Assumes nothing.
 use mathlib.Core.Path.{_≡_}
 use mathlib.Core.List.{List}
-use Prim.Native.Nat.{ℕ, suc, _≤_, _<_}
+use Prim.Native.Nat.{ℕ, _≤_, _<_}
 use lib.ListN.{length}
 use Rattle.finite.specs.Range.{count}
 use Rattle.tables.specs.Columns.{entry}
 use Rattle.topology.specs.Networks.{Network, Node, Reticulation}
-use Rattle.topology.specs.Switchings.{height}
 use Rattle.topology.specs.Components.{component, memberOf, indexOf}
 use Rattle.topology.specs.Lines.{rankOf}
 use Rattle.layout.specs.Lines.{secondary, stamp}
@@ -17,14 +16,14 @@ use Rattle.layout.specs.Parts.{rank, top, reticulationCount, index}
 pub record Dated (n : ℕ) (l : List ℕ) : Type 0 where
   pub small : (v : ℕ) → 1 ≤ v → v ≤ n → stamp l v < 1000000
 
--- the rank of node v as the lines have it (`height` of topology)
+-- the rank of node v by its line
 unfoldable pub rankAt : List ℕ → ℕ → ℕ
-rankAt l v = suc (rankOf (secondary l v) (stamp l v))
+rankAt l v = rankOf (secondary l v) (stamp l v)
 
 -- the table holds the parts of N (`Parted` of layout), the reticulations up to v alone being counted
 pub record PartedTo (N : Network) (v : ℕ) (t : List ℕ) : Type 0 where
   pub long : length t ≡ 512
-  pub ranks : (w : ℕ) → w ≤ N .size → rank t w ≡ height N w
+  pub ranks : (w : ℕ) → w ≤ N .size → rank t w ≡ N .rank w
   pub tops : (w : ℕ) → Node N w → top t w ≡ component N w
   pub counts : (c : ℕ) → Node N c → reticulationCount t c ≡ count v (memberOf N c)
   pub indices : (r : ℕ) → Reticulation N r → r ≤ v → index t r ≡ indexOf N r

@@ -9,12 +9,12 @@ use Rattle.finite.specs.Tests.{under}
 use Rattle.finite.specs.Range.{some, count}
 use Rattle.finite.specs.Refusals.{Refusal}
 use Rattle.topology.specs.Networks.{Network, Node, Reticulation}
-use Rattle.topology.specs.Components.{Linked, members}
+use Rattle.topology.specs.Components.{Linked, reticulationCount}
 use Rattle.topology.specs.Lines.{NodeLines, network}
 
 -- 11: "a component holds more than 8 reticulations". A component goes by its top, so c is the top of one
 unfoldable pub crowdedAt : Network → ℕ → Bool
-crowdedAt N c = under 8 (members N c)
+crowdedAt N c = under 8 (reticulationCount N c)
 
 unfoldable pub refusal11 : Network → Bool
 refusal11 N = some (N .size) (crowdedAt N)

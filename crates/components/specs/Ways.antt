@@ -10,13 +10,13 @@ use Rattle.finite.specs.Tests.{same}
 use Rattle.finite.specs.Range.{some}
 use Rattle.finite.specs.Tables.{at}
 use Rattle.topology.specs.Networks.{Network, Node, isReticulation}
-use Rattle.topology.specs.Switchings.{allPrincipal, height, above}
+use Rattle.topology.specs.Switchings.{allPrincipal, above}
 use Rattle.topology.specs.Components.{isTop}
 use Rattle.layout.specs.Parts.{rank}
 
 -- the table of parts holds the ranks
 pub record Ranked (N : Network) (t : List ℕ) : Type 0 where
-  pub ranks : (v : ℕ) → v ≤ N .size → rank t v ≡ height N v
+  pub ranks : (v : ℕ) → v ≤ N .size → rank t v ≡ N .rank v
 
 -- w is above just one of a and b in the principal tree: on the way between them, the node where they meet left out
 unfoldable pub between : Network → (a b w : ℕ) → Bool

@@ -6,7 +6,7 @@ use Prim.Native.Nat.{ℕ}
 use Rattle.finite.specs.Tests.{same}
 use Rattle.finite.specs.Range.{children}
 use Rattle.topology.specs.Networks.{Network, Node}
-use Rattle.topology.specs.Switchings.{Switching, onSecondary, parent, height}
+use Rattle.topology.specs.Switchings.{Switching, onSecondary, parent}
 use Rattle.topology.specs.Components.{component, Agree}
 use Rattle.displayed.specs.Displayed.{Displayed}
 
@@ -20,7 +20,7 @@ pub record Switched : Type 0 where
   pub secondary : ℕ → Bool
 
 unfoldable pub switched : Network → Switching → Switched
-switched N σ = record { size = N .size; up = parent N σ; rank = height N; secondary = onSecondary N σ }
+switched N σ = record { size = N .size; up = parent N σ; rank = N .rank; secondary = onSecondary N σ }
 
 -- what the rules say of the on arcs: which are transfers, and which nodes have two
 pub record Marks : Type 0 where

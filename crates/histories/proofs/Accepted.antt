@@ -15,8 +15,9 @@ use Rattle.topology.specs.Networks.{Network, Node}
 use Rattle.topology.specs.Lines.{NodeLines, GeneLines, network}
 use Rattle.reconciliation.specs.GeneTrees.{GeneTree}
 use Rattle.reconciliation.specs.Costs.{Costs}
+use Rattle.reconciliation.specs.Limits.{Limits}
 use Rattle.histories.specs.Histories.{leaf, tip, pair, Family}
-use Rattle.histories.specs.Grades.{Leads, Graded, Limits, Order, Schedule, Prepared}
+use Rattle.histories.specs.Grades.{Leads, Graded, Order, Schedule, Prepared}
 use Rattle.histories.specs.Families.{next, outBy, geneBy, firstChild, secondChild, otherChild, outOf, geneOf, familyOf}
 use Rattle.histories.specs.Accepted.{Accepted}
 use Rattle.histories.proofs.Outs.{byOut}
@@ -95,15 +96,9 @@ module _ (L : NodeLines) (K : GeneLines) (G : GeneTree) (C : Costs) where
         (λ x lx ux e. height-falls v x lx ux (rank-principal v x (omega arith) lx ux e))
         (λ x lx ux e. height-falls v x lx ux (rank-secondary v x (omega arith) lx ux e)) (omega arith) h))
 
-    pub whole-limits : Limits Whole
-    unfolding familyOf network
-    whole-limits = record {
-      nodes = ok .limits .nodes;
-      genes = ok .limits .genes;
-      duplication = ok .limits .duplication;
-      transfer = ok .limits .transfer;
-      loss = ok .limits .loss;
-    }
+    pub whole-limits : Limits (Whole .nodes) (Whole .genes) (Whole .costs)
+    unfolding familyOf
+    whole-limits = ok .limits
 
     inner-is : (g a b : ℕ) → Whole .gene g ≡ pair a b → (G .left g ≢ 0) × (a ≡ G .left g) × (b ≡ G .right g)
     inner-is g a b e = byEq (G .left g) 0

@@ -6,14 +6,17 @@ use mathlib.Core.Option.{some}
 use Prim.Native.Nat.{ℕ, suc, _+_, _*_, _≤_, _<_}
 use native.Mathlib.Nat.{mul-le-mul-left, mul-le-mul-right, mul-le-mul, mul-suc, suc-mul, add-mul, mul-add, le-trans}
 use native.Mathlib.Omega.{arith}
+use Rattle.reconciliation.specs.Costs.{Costs}
+use Rattle.reconciliation.specs.Limits.{Limits}
 use Rattle.histories.specs.Histories.{pair, Family, least}
 use Rattle.histories.specs.Histories.{History, rest, duplicate, speciate, speciateLose, transferStay, transferPart, transferLose, pass, cost}
-use Rattle.histories.specs.Grades.{Graded, Limits}
+use Rattle.histories.specs.Grades.{Graded}
 use Rattle.histories.proofs.Costs.{reach}
 use Rattle.histories.proofs.Least.{one-end, two-ends, mixed-ends, least-sound}
 
 module _ (F : Family) where
-  open Family F using (out, gene, duplication, transfer, loss)
+  open Family F using (out, gene, costs)
+  open Costs costs using (duplication, transfer, loss)
 
   -- the steps of a history that may cost
   steps : {g v : ℕ} → History F g v → ℕ
@@ -83,7 +86,7 @@ module _ (F : Family) where
     cost-bound U du tu h = le-trans (by-steps U du tu h) (mul-le-mul-left U (few-steps h))
 
     -- within the limits of 01 a least cost is far below the word for no history
-    pub least-bound : Limits F → (g v c : ℕ) → least F g v ≡ some c → c ≤ 3244032
+    pub least-bound : Limits (F .nodes) (F .genes) (F .costs) → (g v c : ℕ) → least F g v ≡ some c → c ≤ 3244032
     least-bound lim g v c e =
         let q = reach (least-sound F ok g v) c e in
         let w = cost-bound 198 (omega (arith, lim .duplication)) (omega (arith, lim .transfer, lim .loss)) (q .0) in

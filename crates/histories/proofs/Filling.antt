@@ -87,13 +87,13 @@ module _ {F : Family} {order : ℕ → ℕ} (P : Prepared F order) where
     child-ends a la ua = leads-map _ _ (out v) (λ x p. child-done a la ua x (p .0) (p .1)) ends-done
 
     -- so the clauses on the words give the least cost
-    pub stepping-least : stepping (F .duplication) (F .transfer) (F .loss) (row nodes s) g (gene g) v (out v) ≡ least F g v
+    pub stepping-least : stepping (F .costs .duplication) (F .costs .transfer) (F .costs .loss) (row nodes s) g (gene g) v (out v) ≡ least F g v
     unfolding stepping clauses
     stepping-least = rw (
-      ending-same (F .duplication) (F .transfer) (row nodes s) (least F) (gene g) v (out v) (λ a b e.
+      ending-same (F .costs .duplication) (F .costs .transfer) (row nodes s) (least F) (gene g) v (out v) (λ a b e.
           let la = graded .left-more g a b e in let ua = graded .left-in g a b e in let lb = graded .right-more g a b e in let ub = graded .right-in g a b e in
           (child-done a la ua v turn-low turn-high, child-done b lb ub v turn-low turn-high, child-ends a la ua, child-ends b lb ub)),
-      moving-same (F .transfer) (F .loss) (row nodes s g) (least F g) (out v) (leads-map _ _ (out v) (λ x p. p .2) ends-done),
+      moving-same (F .costs .transfer) (F .costs .loss) (row nodes s g) (least F g) (out v) (leads-map _ _ (out v) (λ x p. p .2) ends-done),
     )
         (sym (equation F graded g v))
 

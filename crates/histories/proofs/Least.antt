@@ -10,34 +10,36 @@ use native.Mathlib.Omega.{arith}
 use Rattle.finite.specs.Tests.{same}
 use Rattle.finite.proofs.Tests.{is-same, same-is}
 use Rattle.finite.proofs.Cases.{byEq}
+use Rattle.reconciliation.specs.Costs.{Costs}
 use Rattle.histories.specs.Histories.{Out, leaf, one, two, mixed, Gene, tip, pair, Family, Cost, Least, attained, nothing, LeastOverall, both, resting, parting, moving, ending, stepping, clauses, best, least, leastOver, overall}
 use Rattle.histories.specs.Histories.{History, rest, duplicate, speciate, speciateLose, transferStay, transferPart, transferLose, pass, cost}
 use Rattle.histories.specs.Grades.{Leads, Graded}
 use Rattle.histories.proofs.Costs.{AtMost, within, Attains, nowhere, somewhere, left, right, at-then, at-both, meet, from-both, from-then, convey, reach, found, low, unique}
 
 module _ (F : Family) where
-  open Family F using (out, gene, duplication, transfer, loss)
+  open Family F using (out, gene, costs)
+  open Costs costs using (duplication, transfer, loss)
 
   -- some history of gene g from node v costs c
-  abbrev pub Costs : ℕ → ℕ → ℕ → Type 0
-  Costs g v c = (h : History F g v) × (cost F h ≡ c)
+  abbrev pub CostedBy : ℕ → ℕ → ℕ → Type 0
+  CostedBy g v c = (h : History F g v) × (cost F h ≡ c)
 
-  module _ (W : ℕ → ℕ → Cost) (sound : (g v : ℕ) → Attains (Costs g v) (W g v)) where
-    event : (x g v a s b t : ℕ) → ((h : History F a s) (i : History F b t) → Costs g v (x + cost F h + cost F i)) → Attains (Costs g v) (both x (W a s) (W b t))
+  module _ (W : ℕ → ℕ → Cost) (sound : (g v : ℕ) → Attains (CostedBy g v) (W g v)) where
+    event : (x g v a s b t : ℕ) → ((h : History F a s) (i : History F b t) → CostedBy g v (x + cost F h + cost F i)) → Attains (CostedBy g v) (both x (W a s) (W b t))
     event x g v a s b t f = from-both x (sound a s) (sound b t) (λ c d (h, p) (i, q). let r = f h i in (r .0, cc (r .1)))
 
-    sound-resting : (g v s : ℕ) → gene g ≡ tip s → (A : Out) → out v ≡ A → Attains (Costs g v) (resting s A)
+    sound-resting : (g v s : ℕ) → gene g ≡ tip s → (A : Out) → out v ≡ A → Attains (CostedBy g v) (resting s A)
     unfolding resting cost
     sound-resting g v s k (leaf t) e = at (same s t) (same-is s t)
       where
-        at : (q : Bool) → (q ≡ true → s ≡ t) → Attains (Costs g v) (cond q (some 0) none)
+        at : (q : Bool) → (q ≡ true → s ≡ t) → Attains (CostedBy g v) (cond q (some 0) none)
         at true f = somewhere (rest (k ∙ ap tip (f refl)) e, refl)
         at false f = nowhere
     sound-resting g v s k (one x) e = nowhere
     sound-resting g v s k (two x y) e = nowhere
     sound-resting g v s k (mixed x y) e = nowhere
 
-    sound-parting : (g v a b : ℕ) → gene g ≡ pair a b → (A : Out) → out v ≡ A → Attains (Costs g v) (parting transfer (W a) (W b) v A)
+    sound-parting : (g v a b : ℕ) → gene g ≡ pair a b → (A : Out) → out v ≡ A → Attains (CostedBy g v) (parting transfer (W a) (W b) v A)
     unfolding parting cost
     sound-parting g v a b k (leaf t) e = nowhere
     sound-parting g v a b k (one x) e = nowhere
@@ -48,24 +50,24 @@ module _ (F : Family) where
         (meet (event transfer g v a y b v (λ h i. (transferStay (inl k) e h i, refl))) (event transfer g v b y a v (λ h i. (transferStay (inr k) e h i, refl))))
         (meet (event transfer g v a y b x (λ h i. (transferPart (inl k) e h i, refl))) (event transfer g v b y a x (λ h i. (transferPart (inr k) e h i, refl))))
 
-    sound-ending : (g v : ℕ) (K : Gene) → gene g ≡ K → Attains (Costs g v) (ending duplication transfer W K v (out v))
+    sound-ending : (g v : ℕ) (K : Gene) → gene g ≡ K → Attains (CostedBy g v) (ending duplication transfer W K v (out v))
     unfolding ending cost
     sound-ending g v (tip s) k = sound-resting g v s k (out v) refl
     sound-ending g v (pair a b) k = meet (event duplication g v a v b v (λ h i. (duplicate k h i, refl))) (sound-parting g v a b k (out v) refl)
 
-    sound-moving : (g v : ℕ) (A : Out) → out v ≡ A → Attains (Costs g v) (moving transfer loss (W g) A)
+    sound-moving : (g v : ℕ) (A : Out) → out v ≡ A → Attains (CostedBy g v) (moving transfer loss (W g) A)
     unfolding moving cost
     sound-moving g v (leaf t) e = nowhere
     sound-moving g v (one x) e = from-then 0 (sound g x) (λ c (h, p). (pass (inl e) h, omega arith))
     sound-moving g v (two x y) e = meet (from-then loss (sound g x) (λ c (h, p). (speciateLose (inl e) h, cc))) (from-then loss (sound g y) (λ c (h, p). (speciateLose (inr e) h, cc)))
     sound-moving g v (mixed x y) e = meet (from-then (transfer + loss) (sound g y) (λ c (h, p). (transferLose e h, cc))) (from-then 0 (sound g x) (λ c (h, p). (pass (inr (y, e)) h, omega arith)))
 
-    sound-clauses : (g v : ℕ) → Attains (Costs g v) (clauses F W g v)
+    sound-clauses : (g v : ℕ) → Attains (CostedBy g v) (clauses F W g v)
     unfolding clauses stepping
     sound-clauses g v = meet (sound-ending g v (gene g) refl) (sound-moving g v (out v) refl)
 
   -- a finite cost is that of a history
-  pub sound : (k g v : ℕ) → Attains (Costs g v) (best F k g v)
+  pub sound : (k g v : ℕ) → Attains (CostedBy g v) (best F k g v)
   unfolding best
   sound zero g v = nowhere
   sound (suc k) g v = sound-clauses (best F k) (sound k) g v
@@ -143,7 +145,7 @@ module _ (F : Family) where
     unfolding least
     least-at-most {g} {v} h = complete (suc (F .genes + F .nodes)) (enough g v) h
 
-    pub least-sound : (g v : ℕ) → Attains (Costs g v) (least F g v)
+    pub least-sound : (g v : ℕ) → Attains (CostedBy g v) (least F g v)
     unfolding least
     least-sound g v = sound (suc (F .genes + F .nodes)) g v
 
@@ -151,7 +153,7 @@ module _ (F : Family) where
     pub is-least : (g v : ℕ) → Least F g v (least F g v)
     is-least g v = go (least-sound g v) (λ h. least-at-most h)
       where
-        go : {a : Cost} → Attains (Costs g v) a → ((h : History F g v) → AtMost (cost F h) a) → Least F g v a
+        go : {a : Cost} → Attains (CostedBy g v) a → ((h : History F g v) → AtMost (cost F h) a) → Least F g v a
         go nowhere f = nothing (λ h. elim (f h) [ ])
         go (somewhere p) f = attained (p .0) (p .1) (λ i. low (f i))
 
@@ -163,11 +165,11 @@ module _ (F : Family) where
         full : ℕ
         full = suc (F .genes + F .nodes)
 
-        at : (k : ℕ) → depth g v < k → (c : ℕ) → Costs g v c → AtMost c (best F k g v)
+        at : (k : ℕ) → depth g v < k → (c : ℕ) → CostedBy g v c → AtMost c (best F k g v)
         at k p c (h, e) = rw (← e) (complete k p h)
 
     -- the same of gene g starting at any of the nodes 1..k
-    over-sound : (g k : ℕ) → Attains (λ c. (v : ℕ) × (1 ≤ v) × (v ≤ k) × Costs g v c) (leastOver k (least F g))
+    over-sound : (g k : ℕ) → Attains (λ c. (v : ℕ) × (1 ≤ v) × (v ≤ k) × CostedBy g v c) (leastOver k (least F g))
     unfolding leastOver
     over-sound g zero = nowhere
     over-sound g (suc k) = meet (convey (over-sound g k) (λ c (v, l, u, p). (v, l, omega arith, p))) (convey (least-sound g (suc k)) (λ c p. (suc k, omega arith, omega arith, p)))

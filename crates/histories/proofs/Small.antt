@@ -189,7 +189,7 @@ module _ (L : NodeLines) (K : GeneLines) (G : GeneTree) (C : Costs) (ok : Accept
 
   all-few : all ≤ 63
   unfolding all count network
-  all-few = omega (arith, ok .limits .nodes, branchings (L .size) root (L .principal) (λ v. tally (forks v)) root-low root-high root-none (λ v lv uv. twice v))
+  all-few = omega (arith, ok .limits .few-nodes, branchings (L .size) root (L .principal) (λ v. tally (forks v)) root-low root-high root-none (λ v lv uv. twice v))
 
   -- a leaf gene rests at the leaf of its species
   module _ (g : ℕ) (lg : 1 ≤ g) (ug : g ≤ G .count) (e : G .left g ≡ 0) where
@@ -252,4 +252,4 @@ module _ (L : NodeLines) (K : GeneLines) (G : GeneTree) (C : Costs) (ok : Accept
   overall-exists =
       let h = root-history 1 (omega arith) (ok .rooted .some) in
       let r = overall-at-most F (graded L K G C ok) root root-low root-node (h .0) in
-      (r .0, r .1, omega (arith, r .2, h .1, size-le G (ok .rooted) 1, ok .limits .genes))
+      (r .0, r .1, omega (arith, r .2, h .1, size-le G (ok .rooted) 1, ok .limits .few-genes))

@@ -17,7 +17,7 @@ pub record Seat (L : NodeLines) (v s : ℕ) : Type 0 where
 
 pub record Accepted (L : NodeLines) (K : GeneLines) (G : GeneTree) (C : Costs) : Type 0 where
   -- 4
-  pub limits : Limits (network L) G C
+  pub limits : Limits (L .size) (G .count) C
   -- 6, 7 and 8
   pub sound : Sound (network L)
   -- 8, in numbers of arcs out: a reticulation has "one child, by a principal arc", an inner node "two arcs out, at least one principal", a leaf none

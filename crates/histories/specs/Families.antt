@@ -44,9 +44,7 @@ familyOf L K G C = record {
   genes = G .count;
   out = outOf L;
   gene = geneOf K G;
-  duplication = C .duplication;
-  transfer = C .transfer;
-  loss = C .loss;
+  costs = C;
 }
 
 -- what leaves a node, arc by arc: x is the end of a principal arc, of a secondary arc

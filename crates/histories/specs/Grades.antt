@@ -4,6 +4,7 @@ use mathlib.Core.Path.{_≡_}
 use mathlib.Core.Logic.{_≢_}
 use Prim.Native.Nat.{ℕ, suc, _+_, _≤_, _<_}
 use Rattle.topology.specs.Networks.{Network, Node}
+use Rattle.reconciliation.specs.Limits.{Limits}
 use Rattle.histories.specs.Histories.{Out, leaf, one, two, mixed, pair, Family}
 
 -- every arc out leads to where `below` holds
@@ -26,14 +27,6 @@ pub record Graded (F : Family) : Type 0 where
   pub left-in : (g a b : ℕ) → F .gene g ≡ pair a b → a ≤ F .genes
   pub right-in : (g a b : ℕ) → F .gene g ≡ pair a b → b ≤ F .genes
   pub splits : (g a b : ℕ) → F .gene g ≡ pair a b → size a + size b < size g
-
--- the limits of 01's header
-pub record Limits (F : Family) : Type 0 where
-  pub nodes : F .nodes ≤ 127
-  pub genes : F .genes ≤ 127
-  pub duplication : F .duplication ≤ 99
-  pub transfer : F .transfer ≤ 99
-  pub loss : F .loss ≤ 99
 
 -- the nodes of a network in an order in which each comes after its parents: `order i` is the node at place i, `place v` the place of node v
 pub record Order (N : Network) (order : ℕ → ℕ) : Type 0 where
@@ -59,5 +52,5 @@ pub record Schedule (F : Family) (order : ℕ → ℕ) : Type 0 where
 -- all of this, for a family and an order of its nodes
 pub record Prepared (F : Family) (order : ℕ → ℕ) : Type 0 where
   pub graded : Graded F
-  pub limits : Limits F
+  pub limits : Limits (F .nodes) (F .genes) (F .costs)
   pub schedule : Schedule F order

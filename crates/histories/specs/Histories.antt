@@ -6,6 +6,7 @@ use mathlib.Core.Bool.{cond}
 use mathlib.Core.Option.{Option, none, some}
 use Prim.Native.Nat.{ℕ, zero, suc, _+_, _≤_, min}
 use Rattle.finite.specs.Tests.{same}
+use Rattle.reconciliation.specs.Costs.{Costs}
 
 -- the arcs out of a node, by the nodes they lead to: none, at a leaf of a species; one principal; two principal; a principal and a secondary one
 pub data Out : Type 0 where
@@ -25,12 +26,11 @@ pub record Family : Type 0 where
   pub genes : ℕ
   pub out : ℕ → Out
   pub gene : ℕ → Gene
-  pub duplication : ℕ
-  pub transfer : ℕ
-  pub loss : ℕ
+  pub costs : Costs
 
 module _ (F : Family) where
-  open Family F using (out, gene, duplication, transfer, loss)
+  open Family F using (out, gene, costs)
+  open Costs costs using (duplication, transfer, loss)
 
   -- a and b are the children of g, in either order
   abbrev pub Children : ℕ → ℕ → ℕ → Type 0
@@ -144,7 +144,7 @@ unfoldable pub stepping : (d t l : ℕ) → (W : ℕ → ℕ → Cost) → ℕ �
 stepping d t l W g k v o = ending d t W k v o ⊓ moving t l (W g) o
 
 unfoldable pub clauses : Family → (W : ℕ → ℕ → Cost) → ℕ → ℕ → Cost
-clauses F W g v = stepping (F .duplication) (F .transfer) (F .loss) W g (F .gene g) v (F .out v)
+clauses F W g v = stepping (F .costs .duplication) (F .costs .transfer) (F .costs .loss) W g (F .gene g) v (F .out v)
 
 -- the least cost of the histories of at most k steps
 unfoldable pub best : Family → ℕ → ℕ → ℕ → Cost

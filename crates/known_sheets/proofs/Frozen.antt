@@ -4,17 +4,17 @@
 use mathlib.Core.Path.{_≡_, refl, sym, ap, _∙_}
 use mathlib.Core.Bool.{Bool, true, false}
 use mathlib.Core.List.{List, _++_}
-use Prim.Native.Nat.{ℕ, zero, suc, _+_, _≤_}
+use Prim.Native.Nat.{ℕ, suc, _+_, _≤_}
 use native.Mathlib.Omega.{arith}
 use lib.ListN.{replicate, length-replicate}
 use Rattle.finite.specs.Tests.{same, tally}
 use Rattle.finite.specs.Tables.{at, filled, within}
 use Rattle.finite.specs.Refusals.{verdict}
-use Rattle.finite.proofs.Tables.{filled-in, filled-within}
+use Rattle.finite.proofs.Tables.{replicate-at, filled-in, filled-within}
 use Rattle.finite.proofs.Cases.{byEq, byLess}
 use Rattle.topology.specs.Networks.{Reticulation, isReticulation, reticulations}
 use Rattle.topology.specs.Switchings.{Switching, onSecondary, parent}
-use Rattle.topology.specs.Components.{component, members}
+use Rattle.topology.specs.Components.{component, reticulationCount}
 use Rattle.topology.specs.Lines.{NodeLines, GeneLines, network}
 use Rattle.layout.specs.Headers.{costs}
 use Rattle.sheet.specs.Sheets.{headerIn, nodes, genes, cell}
@@ -38,14 +38,9 @@ use Rattle.score.specs.Outcome.{componentCount, totalsIn, reportIn}
 unfoldable pub listed : ℕ → (ℕ → ℕ) → List ℕ
 listed n f = filled n (replicate (suc n) 0) f
 
-zeros-at : (k v : ℕ) → at (replicate k 0) v ≡ 0
-zeros-at zero v = refl
-zeros-at (suc k) zero = refl
-zeros-at (suc k) (suc v) = zeros-at k v
-
 listed-is : (n : ℕ) (f : ℕ → ℕ) → at (listed n f) ≡ within n f
 unfolding listed
-listed-is n f = filled-within n (replicate (suc n) 0) f (omega (arith, length-replicate {A = ℕ} (suc n) 0)) (zeros-at (suc n))
+listed-is n f = filled-within n (replicate (suc n) 0) f (omega (arith, length-replicate {A = ℕ} (suc n) 0)) (replicate-at (suc n))
 
 -- the lines of a sheet
 unfoldable pub frozenContents : List ℕ → Contents
@@ -128,7 +123,7 @@ module _ (X : Contents) (G : GeneTree) (σ : Switching) where
 
   unfoldable pub reportUnder : List ℕ
   reportUnder = reportOf totalsUnder (X .nodes .size) (X .genes .count) (isReticulation (networkIn X))
-      (parent (networkIn X) σ) (λ v. tally (onSecondary (networkIn X) σ v)) (component (networkIn X)) (members (networkIn X))
+      (parent (networkIn X) σ) (λ v. tally (onSecondary (networkIn X) σ v)) (component (networkIn X)) (reticulationCount (networkIn X))
       (place (networkIn X) G σ) (event (networkIn X) G σ)
       (transfers (networkIn X) G σ) (losses (networkIn X) G σ)
 

@@ -7,12 +7,11 @@ use Rattle.finite.specs.Tables.{filled}
 use Rattle.finite.specs.Refusals.{verdict}
 use Rattle.columns.specs.Fields.{numeralIn, numeral, columns, sameBytes, spells, fieldAt}
 use Rattle.columns.specs.Lines.{fieldsOf, lineOf, malformed, endAt, restAt, lineAt}
-use Rattle.layout.specs.Headers.{costs}
-use Rattle.sheet.specs.Sheets.{lineNo, isLine, cell, limits, refuses3, refuses4, whole, nodeLine, geneLine, refuses5}
+use Rattle.sheet.specs.Sheets.{lineNo, isLine, cell, limits, refusal3, refusal4, whole, nodeLine, geneLine, refusal5}
 use Rattle.topology.specs.Climbing.{seekIn, seek, over, meet, alongIn, along}
 use Rattle.topology.specs.Networks.{isReticulation, reticulations}
-use Rattle.topology.specs.Switchings.{onSecondary, parent, onArcs, height, above, lca}
-use Rattle.topology.specs.Components.{isTop, component, memberOf, members, membersAfter, settingOf}
+use Rattle.topology.specs.Switchings.{onSecondary, parent, onArcs, above, lca}
+use Rattle.topology.specs.Components.{isTop, component, memberOf, reticulationCount, reticulationsAfter, settingOf}
 use Rattle.topology.specs.Lines.{rankOf, network}
 use Rattle.network.specs.Refusals.{badParents, badParentsAt, refusal6, badStamps, badStampsAt, refusal7, afterSix, networkRefusals}
 use Rattle.shapes.specs.Refusals.{reticulationWith, innerWith, leafWith, shapeless, shapelessAt, refusal8, leafAt, refusal9, childWith, childAt, reticulationIfChild, onlyReticulationsAt, refusal10, afterEight, shapeRefusals}
@@ -33,11 +32,11 @@ unfolding same under sum count every some first children firstLeast filled verdi
 open-Finite = tt
 
 unfoldable pub open-Sheet : Unit {0}
-unfolding numeralIn numeral columns sameBytes spells fieldAt fieldsOf lineOf malformed endAt restAt lineAt costs lineNo isLine cell limits refuses3 refuses4 whole nodeLine geneLine refuses5
+unfolding numeralIn numeral columns sameBytes spells fieldAt fieldsOf lineOf malformed endAt restAt lineAt lineNo isLine cell limits refusal3 refusal4 whole nodeLine geneLine refusal5
 open-Sheet = tt
 
 unfoldable pub open-Topology : Unit {0}
-unfolding seekIn seek over meet alongIn along isReticulation reticulations onSecondary parent onArcs height above lca isTop component memberOf members membersAfter settingOf rankOf network
+unfolding seekIn seek over meet alongIn along isReticulation reticulations onSecondary parent onArcs above lca isTop component memberOf reticulationCount reticulationsAfter settingOf rankOf network
 open-Topology = tt
 
 unfoldable pub open-Curators : Unit {0}

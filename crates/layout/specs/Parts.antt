@@ -7,8 +7,8 @@ use Prim.Native.Nat.{ℕ, _≤_, _<_}
 use lib.ListN.{length}
 use Rattle.tables.specs.Columns.{entry}
 use Rattle.topology.specs.Networks.{Network, Node, Reticulation}
-use Rattle.topology.specs.Switchings.{height}
-use Rattle.topology.specs.Components.{component, members, indexOf}
+use Rattle.topology.specs.Components.{component, indexOf}
+use Rattle.topology.specs.Components as Components
 
 abbrev pub rankColumn : ℕ
 rankColumn = 0
@@ -37,9 +37,9 @@ index t = entry t indexColumn
 -- the table holds the parts of N; rows of no node are zeros
 pub record Parted (N : Network) (t : List ℕ) : Type 0 where
   pub long : length t ≡ 512
-  pub ranks : (v : ℕ) → v ≤ N .size → rank t v ≡ height N v
+  pub ranks : (v : ℕ) → v ≤ N .size → rank t v ≡ N .rank v
   pub tops : (v : ℕ) → Node N v → top t v ≡ component N v
-  pub counts : (c : ℕ) → Node N c → reticulationCount t c ≡ members N c
+  pub counts : (c : ℕ) → Node N c → reticulationCount t c ≡ Components.reticulationCount N c
   pub indices : (r : ℕ) → Reticulation N r → index t r ≡ indexOf N r
   pub none : (k : ℕ) → k < 4 → entry t k 0 ≡ 0
   pub past : (k v : ℕ) → N .size < v → k < 4 → entry t k v ≡ 0

@@ -8,7 +8,7 @@ use lib.ListN.{length}
 use Rattle.finite.specs.Tests.{tally}
 use Rattle.tables.specs.Columns.{entry}
 use Rattle.topology.specs.Networks.{Network, Node}
-use Rattle.topology.specs.Switchings.{Switching, onSecondary, parent, onArcs, height}
+use Rattle.topology.specs.Switchings.{Switching, onSecondary, parent, onArcs}
 
 abbrev pub upColumn : ℕ
 upColumn = 0
@@ -39,6 +39,6 @@ pub record Held (N : Network) (σ : Switching) (t : List ℕ) : Type 0 where
   pub long : length t ≡ 512
   pub ups : (v : ℕ) → up t v ≡ parent N σ v
   pub laterals : (v : ℕ) → lateral t v ≡ tally (onSecondary N σ v)
-  pub ranks : (v : ℕ) → v ≤ N .size → rank t v ≡ height N v
+  pub ranks : (v : ℕ) → v ≤ N .size → rank t v ≡ N .rank v
   pub counts : (v : ℕ) → Node N v → arcs t v ≡ onArcs N σ v
   pub past : (v : ℕ) → N .size < v → rank t v ≡ 0

@@ -206,7 +206,6 @@ module _ (h : Header) (t g : List ℕ) (F : Family h t g) where
     duplications-low = omega (arith, u .duplications, all-duplications)
 
     cost-few : s .cost ≤ 99 * 127
-    unfolding costs
     cost-few = omega (arith, u .cost, times {a = h .duplication} {b = s .duplications} {c = 99} {d = 127} (F .limits .duplication) (omega (arith, duplications-low)))
 
     -- a leaf gene
@@ -335,7 +334,7 @@ module _ (h : Header) (t g : List ℕ) (F : Family h t g) where
         }
 
         noted : (v : List ℕ) → v ≡ notedBy r k a b p → Upto T G (costs h) (k - 1) v (raisedBy h s p)
-        unfolding raisedBy costs
+        unfolding raisedBy
         noted v q = rw q (record {
           lent = record { long = noted-long r k a b p l lk la lb; no-transfers = λ j e. other 2 j e (λ x. omega arith) (λ x. omega arith) ∙ u .lent .no-transfers j e; no-losses = λ j e. other 3 j e (λ x. omega arith) (λ x. omega arith) ∙ u .lent .no-losses j e };
           places = λ j x y. byEq j k (λ e. rw e (noted-place r k a b p l lk la lb ∙ node-is))
@@ -432,7 +431,6 @@ module _ (h : Header) (t g : List ℕ) (F : Family h t g) where
     done-losses = down-done _ k (s .losses) _ none (u .given-up)
 
     pub counted : Counted h s
-    unfolding costs
     counted = record {
       limits = F .limits;
       transfers = omega (arith, done-transfers, all-transfers);
@@ -441,7 +439,7 @@ module _ (h : Header) (t g : List ℕ) (F : Family h t g) where
     }
 
     pub scored : (e : Score) → e ≡ totalOf h s → e ≡ scoreOf T G (costs h)
-    unfolding totalOf scoreOf lcaCost costs
+    unfolding totalOf scoreOf lcaCost
     scored e q = q ∙ rw (u .cost, done-duplications, done-transfers, done-losses) (ap (λ (x : ℕ). made x) whole)
       where
         made : ℕ → Score

@@ -10,7 +10,7 @@ use Rattle.finite.specs.Range.{sum}
 use Rattle.tables.specs.Columns.{written}
 use Rattle.layout.specs.Results as R
 use Rattle.layout.specs.Genes.{geneTree}
-use Rattle.layout.specs.Headers.{Limits}
+use Rattle.layout.specs.Headers.{WithinLimits}
 use Rattle.layout.specs.declared.Header.{Header}
 use Rattle.reconciliation.specs.GeneTrees.{GeneTree, Rooted}
 use Rattle.reconciliation.specs.Costs.{Costs}
@@ -23,7 +23,7 @@ use Rattle.mapping.specs.declared.Score.{Score}
 
 -- what is lent: a displayed tree, and a gene tree whose leaf genes sit at nodes of it
 pub record Family (h : Header) (t g : List ℕ) : Type 0 where
-  pub limits : Limits h
+  pub limits : WithinLimits h
   pub tree : Climbable (h .nodes) t
   pub rooted : Rooted (geneTree (h .genes) g)
   pub seated : SeatedIn (treeOf (h .nodes) t) (geneTree (h .genes) g)
@@ -68,7 +68,7 @@ pub record Room (h : Header) (s : Score) (p : Pair) : Type 0 where
 
 -- the counts once all genes are done, and the cost with the transfers' and losses'
 pub record Counted (h : Header) (s : Score) : Type 0 where
-  pub limits : Limits h
+  pub limits : WithinLimits h
   pub transfers : s .transfers ≤ 16129
   pub losses : s .losses ≤ 16129
   pub cost : s .cost ≤ 99 * 127

@@ -14,11 +14,12 @@ use Rattle.finite.proofs.Cases.{byEq, byLess, clash}
 use Rattle.finite.proofs.Tests.{is-same, same-is, not-same, or-no-l, or-no-r, not-false, tally-le}
 use Rattle.finite.proofs.Every.{is-some, not-every, some-none}
 use Rattle.finite.proofs.Count.{count-some, count-find}
+use Rattle.finite.specs.Tables.{within}
 use Rattle.finite.proofs.Tables.{within-zero, within-out}
 use Rattle.finite.proofs.Refusals.{verdict-none}
 use Rattle.topology.specs.Networks.{Node, Sound}
 use Rattle.topology.specs.Lines.{NodeLines, rankOf, network}
-use Rattle.topology.proofs.Lines.{node-of, node-high}
+use Rattle.topology.proofs.Lines.{rank-none, rank-is, rank-some, node-of, node-high}
 use Rattle.layout.specs.Lines.{principal, secondary, nodesIn}
 use Rattle.shapes.specs.Refusals.{refusal8, IsLeaf, Shape, reticulation, inner, leaf, shapelessAt, refusal9, Refusal9, leaf-without, other-with, two-alike, childAt, reticulationIfChild, onlyReticulationsAt, refusal10, Child, by-principal, by-secondary, afterEight, shapeRefusals}
 use Rattle.shapes.proofs.Readings.{shape-at, reading-9, child-is, is-child}
@@ -69,13 +70,15 @@ module _ (L : NodeLines) where
           go (inner r) = r .one-parent
           go (leaf r) = r .one-parent
 
-      rises-principal : (v : ℕ) → Node (network L) v → L .principal v ≢ 0 → rankOf (L .secondary (L .principal v)) (L .stamp (L .principal v)) < rankOf (L .secondary v) (L .stamp v)
+      rises-principal : (v : ℕ) → Node (network L) v → L .principal v ≢ 0 → network L .rank (L .principal v) < network L .rank v
       unfolding rankOf
-      rises-principal v k d = omega (arith, below-principal v k d, tally-le (not (same (L .secondary (L .principal v)) 0)))
+      rises-principal v k d = rw (rank-is L v (λ e. omega (arith, k .low)), rank-is L (L .principal v) d) (omega (arith, below-principal v k d, tally-le (not (same (L .secondary (L .principal v)) 0))))
 
-      rises-secondary : (v : ℕ) → Node (network L) v → L .secondary v ≢ 0 → rankOf (L .secondary (L .secondary v)) (L .stamp (L .secondary v)) < rankOf (L .secondary v) (L .stamp v)
+      rises-secondary : (v : ℕ) → Node (network L) v → L .secondary v ≢ 0 → network L .rank (L .secondary v) < network L .rank v
       unfolding rankOf
       rises-secondary v k d = rw (
+        rank-is L v (λ e. omega (arith, k .low)),
+        rank-is L (L .secondary v) d,
         is-same (source-plain (L .secondary v) v (node-of L (L .secondary v) (omega arith) (secondary-in v k)) k refl),
         not-same d,
         equal-secondary v k d,
@@ -90,6 +93,8 @@ module _ (L : NodeLines) where
         out-secondary = o .out-secondary;
         in-principal = principal-in;
         in-secondary = secondary-in;
+        rank-none = rank-none L;
+        rank-some = rank-some L;
         rank-principal = rises-principal;
         rank-secondary = rises-secondary;
         both = both-parents;
@@ -161,11 +166,15 @@ module _ (L : NodeLines) where
           no-9 r = clash (reading-9 L .1 r) (z .nine)
 
 -- in the lines of an array a number that is no node has no parents
+-- lines that have parents within 1..n alone
+pub none-outside : (n : ℕ) (p q x s : ℕ → ℕ) → NoOthers (record { size = n; principal = within n p; secondary = within n q; stamp = x; species = s })
+none-outside n p q x s = record {
+  zero-principal = within-zero n p;
+  zero-secondary = within-zero n q;
+  out-principal = within-out n p;
+  out-secondary = within-out n q;
+}
+
 pub no-others : (n : ℕ) (l : List ℕ) → NoOthers (nodesIn n l)
 unfolding nodesIn
-no-others n l = record {
-  zero-principal = within-zero n (principal l);
-  zero-secondary = within-zero n (secondary l);
-  out-principal = within-out n (principal l);
-  out-secondary = within-out n (secondary l);
-}
+no-others n l = none-outside n _ _ _ _

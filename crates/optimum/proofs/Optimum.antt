@@ -13,7 +13,7 @@ use Rattle.finite.proofs.Sum.{sum-same, sum-add, sum-mul}
 use Rattle.finite.proofs.Least.{least-is, least-first, least-in}
 use Rattle.topology.specs.Networks.{Network, Sound, Reticulation}
 use Rattle.topology.specs.Switchings.{Switching, NotAfter, equal, before}
-use Rattle.topology.specs.Components.{component, members, settingOf, Agree}
+use Rattle.topology.specs.Components.{component, reticulationCount, settingOf, Agree}
 use Rattle.topology.proofs.Above.{reticulation-node}
 use Rattle.topology.proofs.Components.{component-node}
 use Rattle.reconciliation.specs.GeneTrees.{GeneTree, Rooted, Seated}
@@ -72,17 +72,17 @@ module _ (N : Network) (ok : Sound N) (cost : Switching → ℕ) (charges : Swit
   own c = alone c (bestSetting N cost c) (settingOf N c (bestSetting N cost c)) (λ r _ _. refl)
 
   -- the first least setting of a component is least among all choices there, and the first of those that are as little
-  best-least : (c x : ℕ) → x < 2 ^ members N c → trial N cost c (bestSetting N cost c) ≤ trial N cost c x
+  best-least : (c x : ℕ) → x < 2 ^ reticulationCount N c → trial N cost c (bestSetting N cost c) ≤ trial N cost c x
   unfolding bestSetting
-  best-least c x l = least-is (trial N cost c) (2 ^ members N c) x l
+  best-least c x l = least-is (trial N cost c) (2 ^ reticulationCount N c) x l
 
   best-first : (c x : ℕ) → trial N cost c (bestSetting N cost c) ≡ trial N cost c x → bestSetting N cost c ≤ x
   unfolding bestSetting
-  best-first c x e = byLess x (bestSetting N cost c) (λ m. absurd (omega (arith, least-first (trial N cost c) (2 ^ members N c) x m))) (λ m. m)
+  best-first c x e = byLess x (bestSetting N cost c) (λ m. absurd (omega (arith, least-first (trial N cost c) (2 ^ reticulationCount N c) x m))) (λ m. m)
 
-  best-low : (c : ℕ) → bestSetting N cost c < 2 ^ members N c
+  best-low : (c : ℕ) → bestSetting N cost c < 2 ^ reticulationCount N c
   unfolding bestSetting
-  best-low c = least-in (trial N cost c) (2 ^ members N c) (one-le-pow (members N c) 2 (omega arith))
+  best-low c = least-in (trial N cost c) (2 ^ reticulationCount N c) (one-le-pow (reticulationCount N c) 2 (omega arith))
 
   best-parts : BestParts (N .size) (Reticulation N) (component N) charges (λ c. settingOf N c (bestSetting N cost c))
   best-parts = record {

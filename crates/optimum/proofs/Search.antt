@@ -13,7 +13,7 @@ use Rattle.finite.proofs.Sum.{sum-more}
 use Rattle.finite.proofs.Least.{least-none, least-in}
 use Rattle.topology.specs.Networks.{Network, Sound, Reticulation}
 use Rattle.topology.specs.Switchings.{Switching}
-use Rattle.topology.specs.Components.{component, members, settingOf}
+use Rattle.topology.specs.Components.{component, reticulationCount, settingOf}
 use Rattle.topology.proofs.Above.{reticulation-node}
 use Rattle.topology.proofs.Components.{component-node}
 use Rattle.reconciliation.specs.GeneTrees.{GeneTree, Rooted, Seated}
@@ -78,7 +78,7 @@ module _ (N : Network) (ok : Sound N) (cost : Switching → ℕ) where
 
   all-settings : (c : ℕ) → firstLeast (trial N cost c) (settings N c) ≡ bestSetting N cost c
   unfolding settings trialsOf bestSetting
-  all-settings c = byEq (members N c) 0
+  all-settings c = byEq (reticulationCount N c) 0
       (λ e. rw (is-same e, e, least-none (trial N cost c)) (omega (arith, least-in (trial N cost c) 1 (omega arith))))
       (λ d. rw (not-same d))
 

@@ -15,7 +15,7 @@ use Rattle.finite.proofs.Sum.{sum-suc, sum-zero-range, sum-add, sum-point}
 use Rattle.finite.proofs.Count.{count-zero, count-find}
 use Rattle.topology.specs.Networks.{Network, Sound, Reticulation}
 use Rattle.topology.specs.Switchings.{Switching, NotAfter, equal, before}
-use Rattle.topology.specs.Components.{isTop, component, memberOf, members, indexOf, membersAfter, settingOf, Agree}
+use Rattle.topology.specs.Components.{isTop, component, memberOf, reticulationCount, indexOf, reticulationsAfter, settingOf, Agree}
 use Rattle.topology.proofs.Above.{reticulation-node}
 use Rattle.topology.proofs.Components.{top-component, member-is, is-member}
 
@@ -157,12 +157,12 @@ module _ (N : Network) (ok : Sound N) (c : ℕ) where
   abbrev numberAt : Switching → ℕ
   numberAt σ = number (memberOf N c) σ (N .size)
 
-  setting-number : (x : ℕ) → x < 2 ^ members N c → numberAt (settingOf N c x) ≡ x
-  unfolding settingOf membersAfter members
+  setting-number : (x : ℕ) → x < 2 ^ reticulationCount N c → numberAt (settingOf N c x) ≡ x
+  unfolding settingOf reticulationsAfter reticulationCount
   setting-number x l = number-digits (memberOf N c) (N .size) x l
 
-  number-low : (σ : Switching) → numberAt σ < 2 ^ members N c
-  unfolding members
+  number-low : (σ : Switching) → numberAt σ < 2 ^ reticulationCount N c
+  unfolding reticulationCount
   number-low σ = number-fits (memberOf N c) σ (N .size)
 
   agree-number : (σ τ : Switching) → numberAt σ ≡ numberAt τ → Agree N σ τ c
@@ -174,11 +174,11 @@ module _ (N : Network) (ok : Sound N) (c : ℕ) where
   number-agree σ τ a = number-same (memberOf N c) σ τ (N .size) (λ r _ _ t. let m = member-is N c r t in a r (m .0) (m .1))
 
   -- onto: every choice at the reticulations of component c is a setting with a number below 2^k
-  pub setting-onto : (σ : Switching) → (x : ℕ) × (x < 2 ^ members N c) × Agree N (settingOf N c x) σ c
+  pub setting-onto : (σ : Switching) → (x : ℕ) × (x < 2 ^ reticulationCount N c) × Agree N (settingOf N c x) σ c
   setting-onto σ = (numberAt σ, number-low σ, agree-number (settingOf N c (numberAt σ)) σ (setting-number (numberAt σ) (number-low σ)))
 
   -- and with one only
-  pub setting-one : (x y : ℕ) → x < 2 ^ members N c → y < 2 ^ members N c → Agree N (settingOf N c x) (settingOf N c y) c → x ≡ y
+  pub setting-one : (x y : ℕ) → x < 2 ^ reticulationCount N c → y < 2 ^ reticulationCount N c → Agree N (settingOf N c x) (settingOf N c y) c → x ≡ y
   setting-one x y lx ly a = sym (setting-number x lx) ∙ number-agree (settingOf N c x) (settingOf N c y) a ∙ setting-number y ly
 
   number-order : (σ τ : Switching) → numberAt σ ≤ numberAt τ → NotAfter In σ τ
@@ -192,7 +192,7 @@ module _ (N : Network) (ok : Sound N) (c : ℕ) where
       (λ m. omega (arith, number-agree σ τ (λ r d e. order-anti f (number-order τ σ (omega arith)) r (d, e)))) (λ m. m)
 
   -- the order of numbers is the order by first difference, among the reticulations of component c
-  pub setting-order : (x y : ℕ) → x < 2 ^ members N c → y < 2 ^ members N c → (x ≤ y) ↔ NotAfter In (settingOf N c x) (settingOf N c y)
+  pub setting-order : (x y : ℕ) → x < 2 ^ reticulationCount N c → y < 2 ^ reticulationCount N c → (x ≤ y) ↔ NotAfter In (settingOf N c x) (settingOf N c y)
   setting-order x y lx ly = (
     λ l. number-order (settingOf N c x) (settingOf N c y) (omega (arith, setting-number x lx, setting-number y ly)),
     λ f. omega (arith, order-number (settingOf N c x) (settingOf N c y) f, setting-number x lx, setting-number y ly),
@@ -205,12 +205,12 @@ module _ (N : Network) (ok : Sound N) (c : ℕ) where
 
   pub setting-principal : (r : ℕ) → settingOf N c 0 r ≡ false
   unfolding settingOf
-  setting-principal r = rw (zero-div (2 ^ membersAfter N c r)) (and-no-r (memberOf N c r) _ (not-same {m = 0} {n = 1} (omega arith)))
+  setting-principal r = rw (zero-div (2 ^ reticulationsAfter N c r)) (and-no-r (memberOf N c r) _ (not-same {m = 0} {n = 1} (omega arith)))
 
 -- only a top has reticulations of its own: the others are in no component of that number
-pub members-top : (N : Network) → Sound N → (c : ℕ) → 1 ≤ members N c → isTop N c ≡ true
-unfolding members
-members-top N ok c l =
+pub reticulations-top : (N : Network) → Sound N → (c : ℕ) → 1 ≤ reticulationCount N c → isTop N c ≡ true
+unfolding reticulationCount
+reticulations-top N ok c l =
     let r = count-find (N .size) (memberOf N c) l in
     rw (← member-is N c (r .0) (r .3) .1) (top-component N ok (r .0))
 
@@ -231,8 +231,8 @@ count-split n r f l u t = sum-point n (λ q. tally (f q && under q r) + tally (f
     right false = refl
 
 -- "whose highest bit belongs to the lowest-numbered reticulation": the bit of a reticulation counts down from the highest by its index
-pub index-bit : (N : Network) → Sound N → (r : ℕ) → Reticulation N r → indexOf N r + 1 + membersAfter N (component N r) r ≡ members N (component N r)
-unfolding indexOf membersAfter members
+pub index-bit : (N : Network) → Sound N → (r : ℕ) → Reticulation N r → indexOf N r + 1 + reticulationsAfter N (component N r) r ≡ reticulationCount N (component N r)
+unfolding indexOf reticulationsAfter reticulationCount
 index-bit N ok r d =
     let k = reticulation-node N ok r d in
     sym (count-split (N .size) r (memberOf N (component N r)) (k .low) (k .high) (is-member N (component N r) r d refl))

@@ -9,7 +9,7 @@ use Rattle.finite.specs.Range.{sum}
 use Rattle.finite.specs.Least.{firstLeast}
 use Rattle.topology.specs.Networks.{Network, Node, Reticulation}
 use Rattle.topology.specs.Switchings.{Switching, NotAfter}
-use Rattle.topology.specs.Components.{component, members, settingOf, Agree}
+use Rattle.topology.specs.Components.{component, reticulationCount, settingOf, Agree}
 use Rattle.reconciliation.specs.GeneTrees.{GeneTree}
 use Rattle.reconciliation.specs.Costs.{Costs}
 use Rattle.displayed.specs.Model.{lcaCost}
@@ -31,7 +31,7 @@ module _ (N : Network) (cost : Switching → ℕ) where
 
   -- the first of c's settings for which it is least
   unfoldable pub bestSetting : ℕ → ℕ
-  bestSetting c = firstLeast (trial c) (2 ^ members N c)
+  bestSetting c = firstLeast (trial c) (2 ^ reticulationCount N c)
 
 -- the switching that has setting `bests c` at each component c
 unfoldable pub assembled : Network → (ℕ → ℕ) → Switching
@@ -43,7 +43,7 @@ unfoldable pub trialsOf : (k : ℕ) → ℕ
 trialsOf k = cond (same k 0) 0 (2 ^ k)
 
 unfoldable pub settings : Network → ℕ → ℕ
-settings N c = trialsOf (members N c)
+settings N c = trialsOf (reticulationCount N c)
 
 unfoldable pub trials : Network → ℕ
 trials N = sum (N .size) (settings N)

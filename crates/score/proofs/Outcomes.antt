@@ -2,7 +2,7 @@
 -- sheet that none applies to has its report written.
 -- Assumes nothing.
 use Prim.Native.Nat.{ℕ, _+_, _*_, _≤_, _<_}
-use mathlib.Core.Path.{_≡_, refl, sym, ap, _∙_, subst, fun-ext}
+use mathlib.Core.Path.{_≡_, refl, sym, ap, _∙_, subst}
 use mathlib.Core.Logic.{_≢_}
 use mathlib.Core.Bool.{Bool, true, false, not, _&&_}
 use mathlib.Core.List.{List}
@@ -12,20 +12,20 @@ use Rattle.finite.specs.Tests.{same}
 use Rattle.finite.specs.Range.{every}
 use Rattle.finite.specs.Tables.{at, within}
 use Rattle.finite.specs.Refusals.{verdict}
-use Rattle.finite.proofs.Tables.{within-in, within-out, within-zero}
-use Rattle.finite.proofs.Cases.{byBool, byEq, byLess}
+use Rattle.finite.proofs.Tables.{within-same}
+use Rattle.finite.proofs.Cases.{byBool}
 use Rattle.finite.proofs.Tests.{not-same, and-no-r, told-not-yes, told-not-no, not-false}
 use Rattle.columns.specs.Lines.{fieldCount}
 use Rattle.tables.specs.Columns.{spaced}
 use Rattle.topology.specs.Lines.{network}
 use Rattle.layout.specs.Lines.{stamp, nodesIn, genesIn}
-use Rattle.layout.specs.Headers.{costs, Limits}
+use Rattle.layout.specs.Headers.{WithinLimits}
 use Rattle.layout.specs.declared.Header.{Header}
 use Rattle.topology.specs.Networks.{Sound}
 use Rattle.network.specs.Refusals.{networkRefusals}
 use Rattle.network.proofs.Acceptance as Acceptance
 use Rattle.components.specs.Filling.{Dated}
-use Rattle.sheet.specs.Sheets.{headerIn, nodes, genes, lineNo, limits, refuses3, refuses4, refuses5, headerOf, whole, nodeLine, geneLine, cell, cellsOf, nodeNumbered, geneNumbered}
+use Rattle.sheet.specs.Sheets.{headerIn, nodes, genes, lineNo, limits, refusal3, refusal4, refusal5, headerOf, whole, nodeLine, geneLine, cell, cellsOf, nodeNumbered, geneNumbered}
 use Rattle.sheet.specs.declared.Headed.the-variants.{Header as accepted, Refused as headerRefused}
 use Rattle.sheet.proofs.Limits.{limits-is}
 use Rattle.sheet.proofs.Storing.{cells-at}
@@ -49,17 +49,17 @@ reports q X d e u t r z w = rw z (record { answer = ap Report (w .bytes); result
 
 -- what an accepted header says
 pub record HeaderIs (s : List ℕ) (h : Header) : Type 0 where
-  pub three : refuses3 s ≡ false
-  pub four : refuses4 s ≡ false
+  pub three : refusal3 s ≡ false
+  pub four : refusal4 s ≡ false
   pub header : h ≡ headerIn s
-  pub limited : Limits h
+  pub limited : WithinLimits h
 
 no-header : {A : Type 0} {h : Header} {k : ℕ} → accepted h ≡ headerRefused k → A
 no-header e = let z : _≡_ {A = ℕ} 0 1 = cc in absurd (omega arith)
 
 pub header-is : (s : List ℕ) (h : Header) → accepted h ≡ headerOf s → HeaderIs s h
-unfolding headerOf refuses4
-header-is s h e = byBool (refuses3 s) (λ t. no-header (rw t at e)) (λ t.
+unfolding headerOf refusal4
+header-is s h e = byBool (refusal3 s) (λ t. no-header (rw t at e)) (λ t.
     byBool (not (limits (lineNo s 0 .line))) (λ f. no-header (rw (t, f) at e)) (λ f.
     let q : accepted h ≡ accepted (headerIn s) = rw (t, f) at e in
     let z : h ≡ headerIn s = kind q in
@@ -70,24 +70,19 @@ header-is s h e = byBool (refuses3 s) (λ t. no-header (rw t at e)) (λ t.
 
 pub header-refused : (s : List ℕ) (k : ℕ) → headerRefused k ≡ headerOf s → (k ≢ 0) × ((b w : ℕ) → leastBytes ≤ b → leastWords ≤ w → refusal s b w ≡ k)
 unfolding headerOf
-header-refused s k e = byBool (refuses3 s)
+header-refused s k e = byBool (refusal3 s)
     (λ t. let q : k ≡ 3 = kind (rw t at e) in (λ z. omega arith, λ b w lb lw. refusal-3 s b w lw lb t ∙ sym q))
-    (λ t. byBool (refuses4 s)
+    (λ t. byBool (refusal4 s)
     (λ f. let q : k ≡ 4 = kind (rw (t, f) at e) in (λ z. omega arith, λ b w lb lw. refusal-4 s b w lw lb t f ∙ sym q))
     (λ f. no-header (sym (rw (t, f) at e))))
   where
     kind : {j : ℕ} → headerRefused k ≡ headerRefused j → k ≡ j
     kind e = cc
 
--- f and g agree at 1..n
-within-same : (n : ℕ) (f g : ℕ → ℕ) → ((v : ℕ) → 1 ≤ v → v ≤ n → f v ≡ g v) → within n f ≡ within n g
-within-same n f g e = fun-ext (λ v. byEq v 0 (λ z. rw z (within-zero n f ∙ sym (within-zero n g)))
-    (λ d. byLess n v (λ l. within-out n f v l ∙ sym (within-out n g v l)) (λ l. within-in n f v (omega arith) l ∙ e v (omega arith) l ∙ sym (within-in n g v (omega arith) l))))
-
 module _ (s : List ℕ) (h : Header) (k : HeaderIs s h) where
   -- what 5 finds amiss
-  pub not-whole : (a : Bool) → a ≡ whole s (h .nodes) (h .genes) → not a ≡ true → refuses5 s ≡ true
-  unfolding refuses5
+  pub not-whole : (a : Bool) → a ≡ whole s (h .nodes) (h .genes) → not a ≡ true → refusal5 s ≡ true
+  unfolding refusal5
   not-whole a e t = let f : whole s (nodes s) (genes s) ≡ false = rw (k .header) at (told-not-no a _ e t) in rw f
 
   few-nodes : nodes s ≤ 127
@@ -106,20 +101,20 @@ module _ (s : List ℕ) (h : Header) (k : HeaderIs s h) where
     genes-every : every (h .genes) (geneNumbered cells (h .nodes)) ≡ every (genes s) (geneLine s (nodes s))
     genes-every = rw (cells-are, k .header) (genes-told s few-nodes few-genes)
 
-    pub nodes-amiss : (a : Bool) → a ≡ every (h .nodes) (nodeNumbered cells) → not a ≡ true → refuses5 s ≡ true
-    unfolding refuses5
+    pub nodes-amiss : (a : Bool) → a ≡ every (h .nodes) (nodeNumbered cells) → not a ≡ true → refusal5 s ≡ true
+    unfolding refusal5
     nodes-amiss a e t = let f : every (nodes s) (nodeLine s) ≡ false = sym nodes-every ∙ told-not-no a _ e t in
         rw (f, and-no-r (whole s (nodes s) (genes s)) false refl)
 
-    pub genes-amiss : (a : Bool) → a ≡ every (h .genes) (geneNumbered cells (h .nodes)) → not a ≡ true → refuses5 s ≡ true
-    unfolding refuses5
+    pub genes-amiss : (a : Bool) → a ≡ every (h .genes) (geneNumbered cells (h .nodes)) → not a ≡ true → refusal5 s ≡ true
+    unfolding refusal5
     genes-amiss a e t = let f : every (genes s) (geneLine s (nodes s)) ≡ false = sym genes-every ∙ told-not-no a _ e t in
         rw (f, and-no-r (whole s (nodes s) (genes s) && every (nodes s) (nodeLine s)) false refl)
 
     -- and where it finds nothing
     pub all-well : (a b c : Bool) → a ≡ whole s (h .nodes) (h .genes) → not a ≡ false → b ≡ every (h .nodes) (nodeNumbered cells) → not b ≡ false
-        → c ≡ every (h .genes) (geneNumbered cells (h .nodes)) → not c ≡ false → refuses5 s ≡ false
-    unfolding refuses5
+        → c ≡ every (h .genes) (geneNumbered cells (h .nodes)) → not c ≡ false → refusal5 s ≡ false
+    unfolding refusal5
     all-well a b c ea ta eb tb ec tc =
         let x : whole s (nodes s) (genes s) ≡ true = rw (k .header) at (told-not-yes a _ ea ta) in
         let y : every (nodes s) (nodeLine s) ≡ true = sym nodes-every ∙ told-not-yes b _ eb tb in
@@ -147,7 +142,7 @@ module _ (s : List ℕ) (h : Header) (k : HeaderIs s h) where
     genes-are = rw (gene-field 1 (omega arith), gene-field 2 (omega arith))
 
     contents-are : contentsBy h cells ≡ contentsOf s
-    unfolding contentsOf costs
+    unfolding contentsOf
     contents-are = rw (k .header) (rw (nodes-are, genes-are))
 
     stamps-small : Dated (nodes s) cells
@@ -161,12 +156,12 @@ module _ (s : List ℕ) (h : Header) (k : HeaderIs s h) where
     sized b w lb lw = record { limits = k .limited; stamps = subst (λ (x : Header). Dated (x .nodes) cells) (sym (k .header)) stamps-small; room = lb; space = lw }
 
     -- the outcome of the lines is the sheet's
-    pub five-passed : (d e u t : List ℕ) (r : Answer) → leastBytes ≤ length d → leastWords ≤ length u → refuses5 s ≡ false → OutcomeBy h cells d e u t r → OutcomeOf s d e u t r
+    pub five-passed : (d e u t : List ℕ) (r : Answer) → leastBytes ≤ length d → leastWords ≤ length u → refusal5 s ≡ false → OutcomeBy h cells d e u t r → OutcomeOf s d e u t r
     five-passed d e u t r lb lw f o =
         let q = refusal-later s (length d) (length u) lw lb (k .three) (k .four) f in
         rw q (subst (λ (X : Contents). Outcome (verdict (curatorRefusals X)) X d e u t r) contents-are o)
 
-  pub five-refused : (d u : List ℕ) → leastBytes ≤ length d → leastWords ≤ length u → refuses5 s ≡ true → OutcomeOf s d d u u (Refused 5)
+  pub five-refused : (d u : List ℕ) → leastBytes ≤ length d → leastWords ≤ length u → refusal5 s ≡ true → OutcomeOf s d d u u (Refused 5)
   five-refused d u lb lw t = refuses _ 5 (contentsOf s) d u (refusal-5 s (length d) (length u) lw lb (k .three) (k .four) t) (λ z. omega arith)
 
 -- the outcomes before the header

@@ -9,11 +9,11 @@ use lib.ListN.{length, getD}
 use native.Mathlib.Omega.{arith}
 use Rattle.finite.specs.Refusals.{First, NoneApplies}
 use Rattle.finite.proofs.Tests.{not-false}
-use Rattle.finite.proofs.Tables.{within-zero, within-out}
+use Rattle.network.proofs.Acceptance.{none-outside}
 use Rattle.finite.proofs.Refusals.{told-first, told-none, first-told, first-some, none-told}
 use Rattle.topology.specs.Lines.{network}
-use Rattle.layout.specs.Headers.{costs, Limits}
-use Rattle.sheet.specs.Sheets.{headerIn, refuses4}
+use Rattle.layout.specs.Headers.{costs, WithinLimits}
+use Rattle.sheet.specs.Sheets.{headerIn, refusal4}
 use Rattle.sheet.proofs.Limits.{limits-is}
 use Rattle.network.specs.Accepted.{NoOthers}
 use Rattle.displayed.specs.Model.{lcaCost}
@@ -37,33 +37,23 @@ use Rattle.score.proofs.Refusals.{all-tells, text-passes, curators-pass
 -- a number that is no node has no parents
 pub no-others : (s : List ℕ) → NoOthers (contentsOf s .nodes)
 unfolding contentsOf nodeLines
-no-others s = record {
-  zero-principal = within-zero _ _;
-  zero-secondary = within-zero _ _;
-  out-principal = λ v l. within-out _ _ v l;
-  out-secondary = λ v l. within-out _ _ v l;
-}
+no-others s = none-outside _ _ _ _ _
 
 -- a sheet that no refusal applies to
 module _ (s : List ℕ) (b w : ℕ) (e : refusal s b w ≡ 0) where
   abbrev X : Contents
   X = contentsOf s
 
-  within : Limits (headerIn s)
-  unfolding refuses4
+  within : WithinLimits (headerIn s)
+  unfolding refusal4
   within = limits-is _ (not-false _ (text-passes s b w e .1))
 
   admitted : Admitted (X .nodes) (X .genes) (X .costs)
-  unfolding contentsOf nodeLines geneLines costs
+  unfolding contentsOf nodeLines geneLines
   admitted =
       let p = none-passes (contentsOf s) (no-others s) (curators-pass s b w e) in
       record {
-        few-nodes = within .few-nodes;
-        some-gene = within .some-gene;
-        few-genes = within .few-genes;
-        duplication = within .duplication;
-        transfer = within .transfer;
-        loss = within .loss;
+        limits = within;
         others = no-others s;
         network = p .network;
         component = p .component;

@@ -13,8 +13,8 @@ use Rattle.finite.proofs.Tests.{is-under, under-is, not-under}
 use Rattle.finite.proofs.Refusals.{tell, verdict-here, verdict-later, verdict-none, verdict-first, verdict-second, both-none, all-tell}
 use Rattle.topology.specs.Lines.{network}
 use Rattle.topology.specs.Networks.{Sound}
-use Rattle.sheet.specs.Sheets.{refuses3, refuses4, refuses5}
-use Rattle.sheet.proofs.Refusals.{refuses-3, refuses-4, refuses-5}
+use Rattle.sheet.specs.Sheets.{refusal3, refusal4, refusal5}
+use Rattle.sheet.proofs.Refusals.{reading-3, reading-4, reading-5}
 use Rattle.network.specs.Refusals.{networkRefusals}
 use Rattle.network.specs.Accepted.{NoOthers}
 use Rattle.network.proofs.Acceptance.{accepted}
@@ -37,7 +37,7 @@ buffers-tell bytes words = one-more (tell 1 (omega arith) (under-iff words least
 
 text-tells : (s : List ℕ) → AllTell (textRefusals s)
 unfolding textRefusals
-text-tells s = one-more (tell 3 (omega arith) (refuses-3 s)) (λ _. one-more (tell 4 (omega arith) (refuses-4 s)) (λ _. one-more (tell 5 (omega arith) (refuses-5 s)) (λ _. no-more)))
+text-tells s = one-more (tell 3 (omega arith) (reading-3 s)) (λ _. one-more (tell 4 (omega arith) (reading-4 s)) (λ _. one-more (tell 5 (omega arith) (reading-5 s)) (λ _. no-more)))
 
 -- 11 asks for the components, which a sound network has
 module _ (X : Contents) (o : NoOthers (X .nodes)) where
@@ -97,19 +97,19 @@ module _ (s : List ℕ) (bytes words : ℕ) where
     unfolding refusal refusals bufferRefusals
     ample = verdict-later _ _ (not-under space) ∙ verdict-later _ _ (not-under room)
 
-    pub refusal-3 : refuses3 s ≡ true → refusal s bytes words ≡ 3
+    pub refusal-3 : refusal3 s ≡ true → refusal s bytes words ≡ 3
     unfolding textRefusals
     refusal-3 t = ample ∙ verdict-here _ _ t
 
-    pub refusal-4 : refuses3 s ≡ false → refuses4 s ≡ true → refusal s bytes words ≡ 4
+    pub refusal-4 : refusal3 s ≡ false → refusal4 s ≡ true → refusal s bytes words ≡ 4
     unfolding textRefusals
     refusal-4 a t = ample ∙ verdict-later _ _ a ∙ verdict-here _ _ t
 
-    pub refusal-5 : refuses3 s ≡ false → refuses4 s ≡ false → refuses5 s ≡ true → refusal s bytes words ≡ 5
+    pub refusal-5 : refusal3 s ≡ false → refusal4 s ≡ false → refusal5 s ≡ true → refusal s bytes words ≡ 5
     unfolding textRefusals
     refusal-5 a b t = ample ∙ verdict-later _ _ a ∙ verdict-later _ _ b ∙ verdict-here _ _ t
 
-    pub refusal-later : refuses3 s ≡ false → refuses4 s ≡ false → refuses5 s ≡ false → refusal s bytes words ≡ verdict (curatorRefusals (contentsOf s))
+    pub refusal-later : refusal3 s ≡ false → refusal4 s ≡ false → refusal5 s ≡ false → refusal s bytes words ≡ verdict (curatorRefusals (contentsOf s))
     unfolding textRefusals
     refusal-later a b c = ample ∙ verdict-later _ _ a ∙ verdict-later _ _ b ∙ verdict-later _ _ c
 
@@ -119,7 +119,7 @@ module _ (s : List ℕ) (bytes words : ℕ) (e : refusal s bytes words ≡ 0) wh
   unfolding refusal refusals
   after-buffers = both-none (bufferRefusals bytes words) _ (buffers-tell bytes words) e .1
 
-  pub text-passes : (refuses3 s ≡ false) × (refuses4 s ≡ false)
+  pub text-passes : (refusal3 s ≡ false) × (refusal4 s ≡ false)
   unfolding textRefusals
   text-passes =
       let t = both-none (textRefusals s) _ (text-tells s) after-buffers .0 in

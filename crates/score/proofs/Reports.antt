@@ -16,12 +16,13 @@ use Rattle.finite.proofs.Count.{count-same, count-le}
 use Rattle.columns.specs.Lines.{written}
 use Rattle.topology.specs.Networks.{Network, Node, Sound, isReticulation, reticulations}
 use Rattle.topology.specs.Switchings.{Switching, onSecondary, parent}
-use Rattle.topology.specs.Components.{component, members, memberOf, settingOf}
+use Rattle.topology.specs.Components.{component, reticulationCount, memberOf, settingOf}
 use Rattle.topology.specs.Lines.{NodeLines, GeneLines, network}
 use Rattle.topology.proofs.Above.{reticulation-node}
 use Rattle.topology.proofs.Components.{component-node}
 use Rattle.layout.specs.Lines.{nodesIn, genesIn}
-use Rattle.layout.specs.Parts.{top, reticulationCount}
+use Rattle.layout.specs.Parts.{top}
+use Rattle.layout.specs.Parts as Parts
 use Rattle.layout.specs.Tree.{Held}
 use Rattle.layout.specs.Genes.{geneTree}
 use Rattle.layout.specs.Choices.{best as chosenSetting}
@@ -44,7 +45,7 @@ use Rattle.histories.specs.Promise.{WholeNetwork}
 use Rattle.whole_network.specs.Stages.{AcceptedIn}
 use Rattle.whole_network.specs.Stages as W
 use Rattle.acceptance.specs.Admitted.{Admitted}
-use Rattle.acceptance.proofs.Mapped.{sound, rooted, seated, members-few, cost-small, duplications-small, transfers-small, losses-small, trials-small, reticulations-small, parent-small, place-small, event-few, gene-transfers-small, gene-losses-small}
+use Rattle.acceptance.proofs.Mapped.{sound, rooted, seated, component-few, cost-small, duplications-small, transfers-small, losses-small, trials-small, reticulations-small, parent-small, place-small, event-few, gene-transfers-small, gene-losses-small}
 use Rattle.acceptance.proofs.Whole.{whole-accepted}
 use Rattle.report.specs.declared.Totals.{Totals}
 use Rattle.report.specs.Reports.{SmallTotals, reportLength}
@@ -79,14 +80,9 @@ module _ (h : Header) (lines : List ℕ) (b w : ℕ) (S : Sized h lines b w) (P 
   X = contentsBy h lines
 
   pub admitted : Admitted L K C
-  unfolding nodesIn genesIn costs
+  unfolding nodesIn genesIn
   admitted = record {
-    few-nodes = S .limits .few-nodes;
-    some-gene = S .limits .some-gene;
-    few-genes = S .limits .few-genes;
-    duplication = S .limits .duplication;
-    transfer = S .limits .transfer;
-    loss = S .limits .loss;
+    limits = S .limits;
     others = no-others (h .nodes) lines;
     network = P .network;
     component = P .component;
@@ -109,7 +105,7 @@ module _ (h : Header) (lines : List ℕ) (b w : ℕ) (S : Sized h lines b w) (P 
     prepares = record {
       limits = S .limits;
       sound = is-sound;
-      few = members-few L K C admitted;
+      few = component-few L K C admitted;
       parted = E .parted;
       rooted = rw tree-is (rooted L K C admitted);
       seated = rw tree-is (seated L K C admitted);
@@ -183,10 +179,10 @@ module _ (h : Header) (lines : List ℕ) (b w : ℕ) (S : Sized h lines b w) (P 
         top-in : (v : ℕ) → 1 ≤ v → v ≤ h .nodes → Node N (component N v)
         top-in v a l = component-node N is-sound v (node-in v a l)
 
-        count-in : (c : ℕ) → Node N c → reticulationCount parts c ≡ members N c
+        count-in : (c : ℕ) → Node N c → Parts.reticulationCount parts c ≡ reticulationCount N c
         count-in c k = E .parted .counts c k
 
-        components-are : count (h .nodes) (λ c. not (same (reticulationCount parts c) 0)) ≡ componentCount N
+        components-are : count (h .nodes) (λ c. not (same (Parts.reticulationCount parts c) 0)) ≡ componentCount N
         unfolding componentCount network nodesIn
         components-are = count-same (h .nodes) _ _ (λ v a l. rw (count-in v (node-in v a l)))
 
@@ -214,7 +210,7 @@ module _ (h : Header) (lines : List ℕ) (b w : ℕ) (S : Sized h lines b w) (P 
           nodes = omega (arith, S .limits .few-nodes);
           genes = omega (arith, S .limits .few-genes);
           reticulations = omega (arith, S .limits .few-nodes, count-le (h .nodes) (isReticulation N));
-          components = omega (arith, S .limits .few-nodes, count-le (h .nodes) (λ c. not (same (reticulationCount parts c) 0)));
+          components = omega (arith, S .limits .few-nodes, count-le (h .nodes) (λ c. not (same (Parts.reticulationCount parts c) 0)));
         }
 
         pub nodes-small : SmallNodes (h .nodes) tree parts
@@ -223,7 +219,7 @@ module _ (h : Header) (lines : List ℕ) (b w : ℕ) (S : Sized h lines b w) (P 
             taken = omega (arith, held .ups v, parent-small L K C admitted σ v);
             second = omega (arith, held .laterals v, tally-le (onSecondary N σ v));
             top-row = omega (arith, top-at v a l, top-in v a l .high, size-is, S .limits .few-nodes);
-            count = rw (top-at v a l) (omega (arith, count-in (component N v) (top-in v a l), members-few L K C admitted (component N v)));
+            count = rw (top-at v a l) (omega (arith, count-in (component N v) (top-in v a l), component-few L K C admitted (component N v)));
           };
         }
 
@@ -244,7 +240,7 @@ module _ (h : Header) (lines : List ℕ) (b w : ℕ) (S : Sized h lines b w) (P 
         -- the report is that of the contents
         report-is : tabledReport totals (h .nodes) (h .genes) lines tree parts results ≡ reportIn X
         unfolding reportIn networkIn geneTreeIn reported nodesIn genesIn
-        report-is = report-same totals (totalsIn X) (h .nodes) (h .genes) (isReticulation N) (isReticulation N) _ _ _ _ (parent N σ) (λ v. tally (onSecondary N σ v)) (component N) (members N)
+        report-is = report-same totals (totalsIn X) (h .nodes) (h .genes) (isReticulation N) (isReticulation N) _ _ _ _ (parent N σ) (λ v. tally (onSecondary N σ v)) (component N) (reticulationCount N)
             _ _ _ _ (place N G σ) (event N G σ) (transfers N G σ) (losses N G σ) totals-are (λ v a l. refl)
             (λ v a l. rw (held .ups v, held .laterals v, top-at v a l, count-in (component N v) (top-in v a l)))
             (λ g a l. rw (mapped .places g a (gene-in g l), mapped .events g a (gene-in g l), mapped .ways g a (gene-in g l), mapped .lost g a (gene-in g l)))

@@ -11,7 +11,7 @@ use Rattle.finite.specs.Range.{count}
 use Rattle.finite.specs.Refusals.{First, NoneApplies}
 use Rattle.topology.specs.Networks.{Network, Reticulation, isReticulation, reticulations}
 use Rattle.topology.specs.Switchings.{onSecondary, parent}
-use Rattle.topology.specs.Components.{component, members}
+use Rattle.topology.specs.Components.{component, reticulationCount}
 use Rattle.displayed.specs.Model.{place, event, transfers, losses, duplicationCount, transferCount, lossCount, lcaCost}
 use Rattle.optimum.specs.Optimum.{assembled, trials, Optimal}
 use Rattle.optimum.specs.Machine.{searchAfter, AsScored}
@@ -32,7 +32,7 @@ numberOf (Refused k) = k
 
 -- "components that have any" reticulation: those whose top holds one
 unfoldable pub componentCount : Network → ℕ
-componentCount N = count (N .size) (λ c. not (same (members N c) 0))
+componentCount N = count (N .size) (λ c. not (same (reticulationCount N c) 0))
 
 module _ (X : Contents) where
   -- the numbers of the report's first two lines
@@ -53,7 +53,7 @@ module _ (X : Contents) where
   -- the bytes of the report: the setting reported, and each gene under it
   unfoldable pub reportIn : List ℕ
   reportIn = reportOf totalsIn (X .nodes .size) (X .genes .count) (isReticulation (networkIn X))
-      (parent (networkIn X) (reported X)) (λ v. tally (onSecondary (networkIn X) (reported X) v)) (component (networkIn X)) (members (networkIn X))
+      (parent (networkIn X) (reported X)) (λ v. tally (onSecondary (networkIn X) (reported X) v)) (component (networkIn X)) (reticulationCount (networkIn X))
       (place (networkIn X) (geneTreeIn X) (reported X)) (event (networkIn X) (geneTreeIn X) (reported X))
       (transfers (networkIn X) (geneTreeIn X) (reported X)) (losses (networkIn X) (geneTreeIn X) (reported X))
 

@@ -14,7 +14,7 @@ use Rattle.topology.specs.Lines.{network}
 use Rattle.layout.specs.Lines.{nodesIn, genesIn}
 use Rattle.layout.specs.Parts.{reticulationCount, Parted}
 use Rattle.layout.specs.Genes.{geneTree}
-use Rattle.layout.specs.Headers.{costs, Limits}
+use Rattle.layout.specs.Headers.{costs, WithinLimits}
 use Rattle.layout.specs.declared.Header.{Header}
 use Rattle.network.specs.Refusals.{networkRefusals}
 use Rattle.components.specs.Refusals.{componentRefusals}
@@ -43,7 +43,7 @@ pub record Lined (s : List ℕ) (h : Header) (bytes words : ℕ) : Type 0 where
 
 -- numbers within the limits of 4, every stamp in a field, and buffers that hold what is written
 pub record Sized (h : Header) (lines : List ℕ) (bytes words : ℕ) : Type 0 where
-  pub limits : Limits h
+  pub limits : WithinLimits h
   pub stamps : Dated (h .nodes) lines
   pub room : leastBytes ≤ bytes
   pub space : leastWords ≤ words

@@ -8,9 +8,9 @@ use Prim.Native.Nat.{ℕ, _≤_}
 use native.Mathlib.Omega.{arith}
 use Rattle.finite.specs.Tests.{same, tally}
 use Rattle.finite.proofs.Cases.{byEq}
-use Rattle.finite.proofs.Tests.{not-same, tally-le}
+use Rattle.finite.proofs.Tests.{tally-le}
 use Rattle.topology.specs.Networks.{Network, Node}
-use Rattle.topology.specs.Switchings.{Switching, onSecondary, onArcs, height}
+use Rattle.topology.specs.Switchings.{Switching, onSecondary, onArcs}
 use Rattle.topology.specs.Lines.{network}
 use Rattle.topology.proofs.Above.{parent-cases, byNode}
 use Rattle.layout.specs.Lines.{nodesIn}
@@ -62,8 +62,7 @@ module _ (h : Header) (lines parts genes : List ℕ) (P : Prepared h lines parts
   lateral-few v = rw (H .laterals v) (tally-le (onSecondary N σ v))
 
   rank-some : (v : ℕ) → 1 ≤ v → v ≤ n → 1 ≤ rank t v
-  unfolding height
-  rank-some v l u = rw (H .ranks v (omega (arith, size-is)), not-same {m = v} {n = 0} (λ e. omega arith)) (omega arith)
+  rank-some v l u = rw (H .ranks v (omega (arith, size-is))) (P .sound .rank-some v (λ e. omega arith))
 
   -- three on arcs do not leave one node
   narrow : (c d e : ℕ) → NodeOf (treeOf n t) c → NodeOf (treeOf n t) d → NodeOf (treeOf n t) e → c ≢ d → up t c ≡ up t d → up t e ≡ up t c → (e ≡ c) ⊎ (e ≡ d)

@@ -20,7 +20,7 @@ use Rattle.tables.specs.Columns.{written, blank}
 use Rattle.tables.proofs.Columns.{long, write-here, write-row, write-column, blank-clear}
 use Rattle.layout.specs.Choices.{setting, best}
 use Rattle.topology.specs.Networks.{Network, Sound, isReticulation, reticulations}
-use Rattle.topology.specs.Components.{members, settingOf}
+use Rattle.topology.specs.Components.{reticulationCount, settingOf}
 use Rattle.reconciliation.specs.GeneTrees.{GeneTree}
 use Rattle.reconciliation.specs.Costs.{Costs}
 use Rattle.displayed.specs.Model.{lcaCost}
@@ -45,11 +45,11 @@ unfolding stateOf scored
 score-first trial f t c x z e = rw (z, e, lesser-itself (trial c) 0, add-one t)
 
 -- how many settings
-pub settings-are : (N : Network) (c k r : ℕ) → k ≡ members N c → r ≡ trialsOf k → r ≡ settings N c
+pub settings-are : (N : Network) (c k r : ℕ) → k ≡ reticulationCount N c → r ≡ trialsOf k → r ≡ settings N c
 unfolding settings trialsOf
 settings-are N c k r e q = q ∙ rw e
 
-module _ (N : Network) (ok : Sound N) (G : GeneTree) (C : Costs) (low : N .size ≤ 127) (few : (c : ℕ) → members N c ≤ 8) where
+module _ (N : Network) (ok : Sound N) (G : GeneTree) (C : Costs) (low : N .size ≤ 127) (few : (c : ℕ) → reticulationCount N c ≤ 8) where
   all-trials : trials N ≤ 100000
   unfolding reticulations
   all-trials = omega (arith, trials-le N (λ c _ _. few c), count-le (N .size) (isReticulation N))

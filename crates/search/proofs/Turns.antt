@@ -7,14 +7,14 @@ use native.Mathlib.Omega.{arith}
 use Rattle.tables.specs.Columns.{entry, written, blank}
 use Rattle.tables.proofs.Columns.{blank-clear}
 use Rattle.layout.specs.Lines.{nodesIn}
-use Rattle.layout.specs.Parts.{reticulationCount}
+use Rattle.layout.specs.Parts as Parts
 use Rattle.layout.specs.Tree.{Held}
 use Rattle.layout.specs.Choices.{best}
 use Rattle.layout.specs.Headers.{costs}
 use Rattle.layout.specs.declared.Header.{Header}
 use Rattle.topology.specs.Networks.{Network}
 use Rattle.topology.specs.Switchings.{Switching}
-use Rattle.topology.specs.Components.{members}
+use Rattle.topology.specs.Components.{reticulationCount}
 use Rattle.topology.specs.Lines.{network}
 use Rattle.reconciliation.specs.GeneTrees.{GeneTree}
 use Rattle.reconciliation.specs.Costs.{Costs}
@@ -95,8 +95,8 @@ module _ (h : Header) (lines parts genes : List ℕ) (P : Prepared h lines parts
           (S.stepped N (P .sound) G C low (P .few) ch s (A .reached) (A .inside) at-most ch₁ e (score .cost) q (A .left) ch₂ z D, d .0, d .1)
 
   -- the settings of a component
-  module _ (c k tried : ℕ) (lc : 1 ≤ c) (hc : c ≤ h .nodes) (ek : k ≡ reticulationCount parts c) where
-    count-is : k ≡ members N c
+  module _ (c k tried : ℕ) (lc : 1 ≤ c) (hc : c ≤ h .nodes) (ek : k ≡ Parts.reticulationCount parts c) where
+    count-is : k ≡ reticulationCount N c
     count-is = ek ∙ P .parted .counts c (record { low = lc; high = omega (arith, size-is) })
 
     pub few-reticulations : k ≤ 8

@@ -9,11 +9,11 @@ use Rattle.layout.specs.Parts.{Parted}
 use Rattle.layout.specs.Tree.{Held}
 use Rattle.layout.specs.Genes.{geneTree}
 use Rattle.layout.specs.Results as R
-use Rattle.layout.specs.Headers.{costs, Limits}
+use Rattle.layout.specs.Headers.{costs, WithinLimits}
 use Rattle.layout.specs.declared.Header.{Header}
 use Rattle.topology.specs.Networks.{Network, Sound}
 use Rattle.topology.specs.Switchings.{Switching}
-use Rattle.topology.specs.Components.{members}
+use Rattle.topology.specs.Components.{reticulationCount}
 use Rattle.topology.specs.Lines.{network}
 use Rattle.reconciliation.specs.GeneTrees.{GeneTree, Rooted, Seated}
 use Rattle.reconciliation.specs.Costs.{Costs}
@@ -30,9 +30,9 @@ abbrev pub genesOf : Header → List ℕ → GeneTree
 genesOf h genes = geneTree (h .genes) genes
 
 pub record Prepared (h : Header) (lines parts genes : List ℕ) : Type 0 where
-  pub limits : Limits h
+  pub limits : WithinLimits h
   pub sound : Sound (networkOf h lines)
-  pub few : (c : ℕ) → members (networkOf h lines) c ≤ 8
+  pub few : (c : ℕ) → reticulationCount (networkOf h lines) c ≤ 8
   pub parted : Parted (networkOf h lines) parts
   pub rooted : Rooted (genesOf h genes)
   pub seated : Seated (networkOf h lines) (genesOf h genes)

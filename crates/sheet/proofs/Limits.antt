@@ -9,7 +9,7 @@ use Rattle.finite.specs.Tests.{under}
 use Rattle.finite.specs.Tables.{at}
 use Rattle.finite.proofs.Cases.{byBool}
 use Rattle.finite.proofs.Tests.{is-under, under-is, and-l, and-r}
-use Rattle.layout.specs.Headers.{Limits}
+use Rattle.layout.specs.Headers.{WithinLimits}
 use Rattle.sheet.specs.Sheets.{limits, headerBy}
 
 record Parts (h : List ℕ) : Type 0 where
@@ -25,7 +25,7 @@ parts : (h : List ℕ) → limits h ≡ true → Parts h
 unfolding limits
 parts h t = search (and-l, and-r)
 
-pub limits-is : (h : List ℕ) → limits h ≡ true → Limits (headerBy h)
+pub limits-is : (h : List ℕ) → limits h ≡ true → WithinLimits (headerBy h)
 limits-is h t = let p = parts h t in omega (
   arith,
   under-is 0 (at h 0) (p .a),
@@ -37,7 +37,7 @@ limits-is h t = let p = parts h t in omega (
   under-is (at h 4) 100 (p .g),
 )
 
-pub is-limits : (h : List ℕ) → Limits (headerBy h) → true ≡ limits h
+pub is-limits : (h : List ℕ) → WithinLimits (headerBy h) → true ≡ limits h
 unfolding limits
 is-limits h k = rw (
   is-under {m = 0} {n = at h 0} (omega arith),
@@ -49,5 +49,5 @@ is-limits h k = rw (
   is-under {m = at h 4} {n = 100} (omega arith),
 )
 
-pub beyond : (h : List ℕ) → (Limits (headerBy h) → ⊥) → false ≡ limits h
+pub beyond : (h : List ℕ) → (WithinLimits (headerBy h) → ⊥) → false ≡ limits h
 beyond h no-way = byBool (limits h) (λ t. absurd (no-way (limits-is h t))) (λ t. sym t)

@@ -17,13 +17,13 @@ use Rattle.columns.specs.declared.End.{End}
 use Rattle.columns.specs.declared.End.the-variants.{After, Malformed}
 use Rattle.columns.proofs.Lines.{malformed-zero}
 use Rattle.sheet.specs.declared.Headed.the-variants.{Header as accepted, Refused}
-use Rattle.layout.specs.Headers.{Limits}
-use Rattle.sheet.specs.Sheets.{found, linesPut, allLines, lineNo, isLine, cell, headerBy, limits, refuses3, refuses4, headerOf, whole, nodeLine, geneLine, cellsOf, nodeNumbered, geneFieldsFit, geneNumbered}
+use Rattle.layout.specs.Headers.{WithinLimits}
+use Rattle.sheet.specs.Sheets.{found, linesPut, allLines, lineNo, isLine, cell, headerBy, limits, refusal3, refusal4, headerOf, whole, nodeLine, geneLine, cellsOf, nodeNumbered, geneFieldsFit, geneNumbered}
 use Rattle.sheet.proofs.Limits.{limits-is}
 use Rattle.sheet.proofs.Storing.{one-line, cells-at}
 
 -- a header that passes the test of the limits
-pub within : (h : List ℕ) (c : Bool) → c ≡ limits h → not c ≡ false → Limits (headerBy h)
+pub within : (h : List ℕ) (c : Bool) → c ≡ limits h → not c ≡ false → WithinLimits (headerBy h)
 within h c ec u = limits-is h (told-not-yes c _ ec u)
 
 -- the header, from what reading line 0 told
@@ -36,16 +36,16 @@ module _ (s h : List ℕ) (eh : h ≡ linesPut (replicate fieldCount 0) s 1) (b 
   found-is = eb ∙ byBool (isLine s 0) (λ t. rw t) (λ t. rw t)
 
   pub no-header : not b ≡ true → Refused 3 ≡ headerOf s
-  unfolding headerOf refuses3
+  unfolding headerOf refusal3
   no-header t = rw (told-not-no b _ found-is t)
 
   pub header-beyond : not b ≡ false → (c : Bool) → c ≡ limits h → not c ≡ true → Refused 4 ≡ headerOf s
-  unfolding headerOf refuses3 refuses4
+  unfolding headerOf refusal3 refusal4
   header-beyond t c ec u = rw (told-not-yes b _ found-is t, ← line-is, told-not-no c _ ec u)
 
   pub header-within : not b ≡ false → (c : Bool) → c ≡ limits h → not c ≡ false
       → accepted (record { nodes = at h 0; genes = at h 1; duplication = at h 2; transfer = at h 3; loss = at h 4 }) ≡ headerOf s
-  unfolding headerOf refuses3 refuses4
+  unfolding headerOf refusal3 refusal4
   header-within t c ec u = rw (told-not-yes b _ found-is t, ← line-is, told-not-yes c _ ec u)
 
 -- the length rule

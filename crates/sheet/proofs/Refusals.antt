@@ -13,12 +13,12 @@ use Rattle.finite.specs.Tables.{at}
 use Rattle.finite.proofs.Cases.{byBool, clash}
 use Rattle.finite.proofs.Tests.{is-same, same-is, and-l, and-r, not-true, not-false, not-yes}
 use Rattle.finite.proofs.Every.{every-at, is-every, every-same}
-use Rattle.layout.specs.Headers.{Limits}
+use Rattle.layout.specs.Headers.{WithinLimits}
 use Rattle.columns.specs.Lines.{fieldCount, lineLength, lineAt, LineIs}
 use Rattle.columns.specs.declared.End.{End}
 use Rattle.columns.specs.declared.End.the-variants.{After, Malformed}
 use Rattle.columns.proofs.Lines.{line-is, small-read, one-line}
-use Rattle.sheet.specs.Sheets.{found, lineNo, isLine, cell, headerIn, nodes, genes, limits, refuses3, refuses4, whole, nodeLine, geneLine, refuses5, Line, NodeLine, GeneLine, WellFormed, cellsOf, nodeNumbered, geneNumbered}
+use Rattle.sheet.specs.Sheets.{found, lineNo, isLine, cell, headerIn, nodes, genes, limits, refusal3, refusal4, whole, nodeLine, geneLine, refusal5, Line, NodeLine, GeneLine, WellFormed, cellsOf, nodeNumbered, geneNumbered}
 use Rattle.sheet.proofs.Limits.{limits-is, is-limits}
 use Rattle.sheet.proofs.Reading.{node-numbered, gene-numbered}
 
@@ -47,17 +47,17 @@ same-cells s i ns l k h = let f = line-found s i (found-line s i ns l) in
     one-line (lineNo s i .line) ns (f .small) (l .small) (sym (f .bytes) ∙ l .bytes) k h
 
 -- 3: no numbers have the first bytes for their line
-pub refuses-3 : (s : List ℕ) → (refuses3 s ≡ true) ↔ ((ns : List ℕ) → Line s 0 ns → ⊥)
-unfolding refuses3
-refuses-3 s = (
+pub reading-3 : (s : List ℕ) → (refusal3 s ≡ true) ↔ ((ns : List ℕ) → Line s 0 ns → ⊥)
+unfolding refusal3
+reading-3 s = (
   (λ t ns l. clash (found-line s 0 ns l) (not-true (isLine s 0) t)),
   λ none. not-yes (isLine s 0) (byBool (isLine s 0) (λ t. absurd (none _ (line-found s 0 t))) (λ t. t)),
 )
 
 -- 4: the header is beyond the limits
-pub refuses-4 : (s : List ℕ) → (refuses4 s ≡ true) ↔ (Limits (headerIn s) → ⊥)
-unfolding refuses4
-refuses-4 s = (
+pub reading-4 : (s : List ℕ) → (refusal4 s ≡ true) ↔ (WithinLimits (headerIn s) → ⊥)
+unfolding refusal4
+reading-4 s = (
   (λ t l. clash (sym (is-limits _ l)) (not-true (limits (lineNo s 0 .line)) t)),
   λ none. not-yes (limits (lineNo s 0 .line)) (byBool (limits (lineNo s 0 .line)) (λ t. absurd (none (limits-is _ t))) (λ t. t)),
 )
@@ -99,8 +99,8 @@ line-gene s n g l = rw (
 abbrev later : List ℕ → Bool
 later s = whole s (nodes s) (genes s) && every (nodes s) (nodeLine s) && every (genes s) (geneLine s (nodes s))
 
-pub well-formed : (s : List ℕ) → refuses5 s ≡ false → WellFormed s (nodes s) (genes s)
-unfolding refuses5 whole
+pub well-formed : (s : List ℕ) → refusal5 s ≡ false → WellFormed s (nodes s) (genes s)
+unfolding refusal5 whole
 well-formed s f = let t = not-false (later s) f in
     let lines = and-l (whole s (nodes s) (genes s) && every (nodes s) (nodeLine s)) _ t in
     record {
@@ -109,16 +109,16 @@ well-formed s f = let t = not-false (later s) f in
       gene = λ g l u. gene-line s (nodes s) g (every-at (genes s) (geneLine s (nodes s)) (and-r (whole s (nodes s) (genes s) && every (nodes s) (nodeLine s)) _ t) g l u);
     }
 
-pub formed-well : (s : List ℕ) → WellFormed s (nodes s) (genes s) → refuses5 s ≡ false
-unfolding refuses5 whole
+pub formed-well : (s : List ℕ) → WellFormed s (nodes s) (genes s) → refusal5 s ≡ false
+unfolding refusal5 whole
 formed-well s w = rw (
   is-same (w .total),
   is-every (nodes s) (nodeLine s) (λ v l u. line-node s v (w .node v l u)),
   is-every (genes s) (geneLine s (nodes s)) (λ g l u. line-gene s (nodes s) g (w .gene g l u)),
 )
 
-pub refuses-5 : (s : List ℕ) → (refuses5 s ≡ true) ↔ (WellFormed s (nodes s) (genes s) → ⊥)
-refuses-5 s = ((λ t w. clash t (formed-well s w)), λ none. byBool (refuses5 s) (λ t. t) (λ f. absurd (none (well-formed s f))))
+pub reading-5 : (s : List ℕ) → (refusal5 s ≡ true) ↔ (WellFormed s (nodes s) (genes s) → ⊥)
+reading-5 s = ((λ t w. clash t (formed-well s w)), λ none. byBool (refusal5 s) (λ t. t) (λ f. absurd (none (well-formed s f))))
 
 -- what the cells of 1 + n + m lines tell of 5
 module _ (s : List ℕ) (few-nodes : nodes s ≤ 127) (few-genes : genes s ≤ 127) where

@@ -51,16 +51,16 @@ limits h = under 0 (at h 0) && under (at h 0) 128 && under 0 (at h 1) && under (
     && under (at h 2) 100 && under (at h 3) 100 && under (at h 4) 100
 
 -- 3: "no whole header line, or a field or line feed in it malformed"
-unfoldable pub refuses3 : List ℕ → Bool
-refuses3 s = not (isLine s 0)
+unfoldable pub refusal3 : List ℕ → Bool
+refusal3 s = not (isLine s 0)
 
 -- 4: "n, m or a cost beyond its limits"
-unfoldable pub refuses4 : List ℕ → Bool
-refuses4 s = not (limits (lineNo s 0 .line))
+unfoldable pub refusal4 : List ℕ → Bool
+refusal4 s = not (limits (lineNo s 0 .line))
 
 -- what the header comes to
 unfoldable pub headerOf : List ℕ → Headed
-headerOf s = cond (refuses3 s) (Refused 3) (cond (refuses4 s) (Refused 4)
+headerOf s = cond (refusal3 s) (Refused 3) (cond (refusal4 s) (Refused 4)
     (accepted (headerIn s)))
 
 -- "total length is not 31 × (1 + n + m)"
@@ -76,8 +76,8 @@ unfoldable pub geneLine : List ℕ → ℕ → ℕ → Bool
 geneLine s n g = isLine s (n + g) && same (cell s (n + g) 0) g && same (cell s (n + g) 3) 0 && same (cell s (n + g) 4) 0
 
 -- 5: "total length is not 31 × (1 + n + m); or a later line is malformed, out of number, or a gene line's last two fields are not 0"
-unfoldable pub refuses5 : List ℕ → Bool
-refuses5 s = not (whole s (nodes s) (genes s) && every (nodes s) (nodeLine s) && every (genes s) (geneLine s (nodes s)))
+unfoldable pub refusal5 : List ℕ → Bool
+refusal5 s = not (whole s (nodes s) (genes s) && every (nodes s) (nodeLine s) && every (genes s) (geneLine s (nodes s)))
 
 -- The conditions of 3, 4 and 5 as a reader of 01 would state them; proofs/Refusals joins them with the tests above.
 -- Line i is the line of the numbers ns

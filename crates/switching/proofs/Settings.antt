@@ -1,5 +1,5 @@
--- A reticulation's bit of the setting of its component says what the assembled switching says. The index of a reticulation and the members after it make
--- up its component, so the bit that shift and mask pick by the index is the one that the definition picks by the members after it.
+-- A reticulation's bit of the setting of its component says what the assembled switching says. The index of a reticulation and the reticulations after it make
+-- up its component, so the bit that shift and mask pick by the index is the one that the definition picks by the reticulations after it.
 -- Assumes nothing.
 use mathlib.Core.Path.{_≡_, refl, sym, _∙_}
 use mathlib.Core.Logic.{_≢_}
@@ -10,12 +10,13 @@ use Rattle.finite.specs.Tests.{same}
 use Rattle.finite.proofs.Cases.{byEq}
 use Rattle.topology.specs.Networks.{Network, Node, Sound, Reticulation}
 use Rattle.topology.specs.Switchings.{Switching}
-use Rattle.topology.specs.Components.{component, members, indexOf, membersAfter, settingOf}
+use Rattle.topology.specs.Components.{component, reticulationCount, indexOf, reticulationsAfter, settingOf}
 use Rattle.topology.specs.Lines.{network}
 use Rattle.topology.proofs.Above.{reticulation-node}
 use Rattle.topology.proofs.Components.{component-node, is-member}
 use Rattle.layout.specs.Lines.{secondary, nodesIn}
-use Rattle.layout.specs.Parts.{top, reticulationCount, index, Parted}
+use Rattle.layout.specs.Parts.{top, index, Parted}
+use Rattle.layout.specs.Parts as Parts
 use Rattle.layout.specs.Tree.{Held}
 use Rattle.layout.proofs.Numbered.{secondary-in}
 use Rattle.optimum.specs.Optimum.{assembled}
@@ -30,10 +31,10 @@ bit-low x k j b e = omega arith
 
 -- what the assembled switching says at a reticulation
 assembled-bit : (N : Network) → Sound N → (r : ℕ) → Reticulation N r → (settings : ℕ → ℕ)
-    → same (bitOf (settings (component N r)) (members N (component N r)) (indexOf N r)) 1 ≡ assembled N settings r
+    → same (bitOf (settings (component N r)) (reticulationCount N (component N r)) (indexOf N r)) 1 ≡ assembled N settings r
 unfolding assembled settingOf bitOf
 assembled-bit N ok r d settings =
-    let e : members N (component N r) - 1 - indexOf N r ≡ membersAfter N (component N r) r = omega (arith, index-bit N ok r d) in
+    let e : reticulationCount N (component N r) - 1 - indexOf N r ≡ reticulationsAfter N (component N r) r = omega (arith, index-bit N ok r d) in
     rw (is-member N (component N r) r d refl, e)
 
 -- the reticulations one after another
@@ -90,14 +91,14 @@ module _ (n : ℕ) (l p : List ℕ) (few : n ≤ 127) (ok : Sound (network (node
     unfolding network nodesIn
     top-low = omega (arith, top-is, component-node N ok r is-node)
 
-    module _ (k j : ℕ) (ek : k ≡ reticulationCount p c) (ej : j ≡ index p r) where
-      count-is : k ≡ members N (component N r)
+    module _ (k j : ℕ) (ek : k ≡ Parts.reticulationCount p c) (ej : j ≡ index p r) where
+      count-is : k ≡ reticulationCount N (component N r)
       count-is = rw (← top-is) (ek ∙ parted .counts c (rw top-is (component-node N ok r is-node)))
 
       index-is : j ≡ indexOf N r
       index-is = ej ∙ parted .indices r d
 
-      pub bit-fits : ((c : ℕ) → members N c ≤ 8) → (j < k) × (k ≤ 8)
+      pub bit-fits : ((c : ℕ) → reticulationCount N c ≤ 8) → (j < k) × (k ≤ 8)
       bit-fits small = (omega (arith, count-is, index-is, index-bit N ok r d), omega (arith, count-is, small (component N r)))
 
       pub bit-told : (settings : ℕ → ℕ) (b : ℕ) → b ≡ bitOf (settings c) k j → same b 1 ≡ assembled N settings r

@@ -13,7 +13,7 @@ use Rattle.finite.proofs.Count.{children-same}
 use Rattle.tables.specs.Columns.{entry, column, blank, Clear}
 use Rattle.tables.proofs.Columns.{blank-clear, column-clear, column-keeps, column-long, column-in, column-within}
 use Rattle.topology.specs.Networks.{Network, Sound}
-use Rattle.topology.specs.Switchings.{allPrincipal, onSecondary, parent, onArcs, height}
+use Rattle.topology.specs.Switchings.{allPrincipal, onSecondary, parent, onArcs}
 use Rattle.topology.specs.Lines.{network}
 use Rattle.topology.proofs.Above.{parent-principal}
 use Rattle.layout.specs.Lines.{principal, nodesIn}
@@ -74,9 +74,9 @@ module _ (n : ℕ) (l p : List ℕ) (few : n ≤ 127) where
     parent-is v = parent-principal N v
 
     module _ (parted : Parted N p) where
-      rank-height : (v : ℕ) → v ≤ n → within n (P.rank p) v ≡ height N v
+      rank-held : (v : ℕ) → v ≤ n → within n (P.rank p) v ≡ N .rank v
       unfolding network nodesIn
-      rank-height v u = byEq v 0
+      rank-held v u = byEq v 0
           (λ e. rw e (within-zero n (P.rank p) ∙ sym (parted .none P.rankColumn (omega arith)) ∙ parted .ranks 0 (omega arith)))
           (λ d. within-in n (P.rank p) v (omega arith) u ∙ parted .ranks v u)
 
@@ -86,7 +86,7 @@ module _ (n : ℕ) (l p : List ℕ) (few : n ≤ 127) where
         long = column-long arcsColumn second (children n (principal l)) n low ∙ arcs-clear .long;
         ups = λ v. up-is v ∙ sym (parent-is v);
         laterals = λ v. kept lateralColumn v (λ e. omega arith) ∙ second-clear lateralColumn (omega arith) (λ e. omega arith) (λ e. omega arith) .none v;
-        ranks = λ v u. rank-is v ∙ rank-height v u;
+        ranks = λ v u. rank-is v ∙ rank-held v u;
         counts = λ v k. column-in arcsColumn second (children n (principal l)) n v low (k .low) (k .high) (omega (arith, arcs-clear .long))
             ∙ children-same n (principal l) (parent N allPrincipal) v (λ x a b. sym (parent-is x ∙ within-in n (principal l) x a b));
         past = λ v u. rank-is v ∙ within-out n (P.rank p) v u;

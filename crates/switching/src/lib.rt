@@ -10,7 +10,7 @@ ghost use lib.ListN.{length};
 ghost use Rattle.tables.specs.Columns.{entry, column, blank};
 ghost use Rattle.topology.specs.Networks.{Sound, Reticulation};
 ghost use Rattle.topology.specs.Switchings.{allPrincipal};
-ghost use Rattle.topology.specs.Components.{members};
+ghost use Rattle.topology.specs.Components.{reticulationCount};
 ghost use Rattle.topology.specs.Lines.{network};
 ghost use Rattle.layout.specs.Lines.{principal, secondary, nodesIn};
 ghost use Rattle.layout.specs.Parts.{rank, Parted};
@@ -107,7 +107,7 @@ fn turn_next(
     t: &mut tree::Tree,
     v: usize,
 )
-    requires { ⌜ (n ≤ 127) × (v < n) × Sound (network (nodesIn n (now lines))) × Parted (network (nodesIn n (now lines))) (now parts) × ((c : ℕ) → members (network (nodesIn n (now lines))) c ≤ 8) × (k < 4) ⌝ }
+    requires { ⌜ (n ≤ 127) × (v < n) × Sound (network (nodesIn n (now lines))) × Parted (network (nodesIn n (now lines))) (now parts) × ((c : ℕ) → reticulationCount (network (nodesIn n (now lines))) c ≤ 8) × (k < 4) ⌝ }
     requires { ⌜ TurnedTo (network (nodesIn n (now lines))) (assembled (network (nodesIn n (now lines))) (entry (now choices) k)) v (now t) ⌝ }
     ensures { λ _. ⌜ TurnedTo (network (nodesIn n (now (lines .entry)))) (assembled (network (nodesIn n (now (lines .entry)))) (entry (now (choices .entry)) k)) (v + 1) (now (t .exit)) ⌝ }
 {
@@ -135,7 +135,7 @@ pub fn switch(
     k: usize,
     t: &mut tree::Tree,
 )
-    requires { ⌜ (n ≤ 127) × Sound (network (nodesIn n (now lines))) × Parted (network (nodesIn n (now lines))) (now parts) × ((c : ℕ) → members (network (nodesIn n (now lines))) c ≤ 8) × (k < 4) ⌝ }
+    requires { ⌜ (n ≤ 127) × Sound (network (nodesIn n (now lines))) × Parted (network (nodesIn n (now lines))) (now parts) × ((c : ℕ) → reticulationCount (network (nodesIn n (now lines))) c ≤ 8) × (k < 4) ⌝ }
     requires { ⌜ SomeHeld (network (nodesIn n (now lines))) (now t) ⌝ }
     ensures { λ _. ⌜ Held (network (nodesIn n (now (lines .entry)))) (assembled (network (nodesIn n (now (lines .entry)))) (entry (now (choices .entry)) k)) (now (t .exit)) ⌝ }
 {

@@ -51,7 +51,7 @@ pub fn spaced(t: &[u32], b: usize, s: usize, v: usize) -> usize
 }
 
 // The parent p where it is one of 1 to n, else 0: row 0 takes what no other row does, and is cleared at the end.
-pub fn slot(n: usize, p: usize) -> usize
+fn slot(n: usize, p: usize) -> usize
     ensures { λ r. ⌜ (r ≡ inside n p) × (r ≤ n) ⌝ }
 {
     if n < p {

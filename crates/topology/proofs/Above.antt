@@ -1,16 +1,16 @@
--- Parents under a switching, and what is above what. The rank makes the height fall along every arc, so the laws of climbing hold for every
+-- Parents under a switching, and what is above what. The rank falls along every arc upwards and is 0 for no node alone, so the laws of climbing hold for every
 -- switching (`falls`), and `above` is the reachability along on arcs (`above-is`, `is-above`).
 -- Assumes nothing.
 use mathlib.Core.Path.{_≡_, refl, sym, _∙_}
 use mathlib.Core.Logic.{_≢_}
 use mathlib.Core.Bool.{true, false, _&&_, and-true, and-false}
-use Prim.Native.Nat.{ℕ, suc, _<_}
+use Prim.Native.Nat.{ℕ, _<_}
 use native.Mathlib.Omega.{arith}
 use Rattle.finite.proofs.Cases.{byBool, byEq, byOrder, clash}
 use Rattle.finite.proofs.Tests.{is-same, not-same}
 use Rattle.topology.specs.Climbing.{Falls}
 use Rattle.topology.specs.Networks.{Network, Node, Sound, Reticulation, isReticulation}
-use Rattle.topology.specs.Switchings.{Switching, allPrincipal, onSecondary, parent, height, above, Above, here, step, lca}
+use Rattle.topology.specs.Switchings.{Switching, allPrincipal, onSecondary, parent, above, Above, here, step, lca}
 use Rattle.topology.proofs.Climbing.{climb-ind, over-self, over-up, over-not, over-zero, over-trans, over-low, over-anti, meet-spec}
 
 module _ (N : Network) where
@@ -48,17 +48,6 @@ pub on-reticulation : (N : Network) (σ : Switching) (r : ℕ) → Reticulation 
 unfolding onSecondary
 on-reticulation N σ r d = rw (is-reticulation N r d, and-true (σ r))
 
-height-zero : (N : Network) → height N 0 ≡ 0
-unfolding height
-height-zero N = rw (is-same {m = 0} refl)
-
-height-node : (N : Network) (v : ℕ) → v ≢ 0 → height N v ≡ suc (N .rank v)
-unfolding height
-height-node N v d = rw (not-same d)
-
-height-fall : (N : Network) (v y : ℕ) → v ≢ 0 → (y ≢ 0 → N .rank y < N .rank v) → height N y < height N v
-height-fall N v y d h = rw (height-node N v d) (byEq y 0 (λ e. rw (e, height-zero N) (omega arith)) (λ k. rw (height-node N y k) (omega (arith, h k))))
-
 module _ (N : Network) (ok : Sound N) where
   open Network N using (size, principal, secondary, rank)
 
@@ -79,53 +68,53 @@ module _ (N : Network) (ok : Sound N) where
   pub node-secondary : (v : ℕ) → Reticulation N v → Node N (secondary v)
   node-secondary v d = omega (arith, ok .in-secondary v (reticulation-node v d))
 
-  pub fall-principal : (x : ℕ) → x ≢ 0 → height N (principal x) < height N x
-  fall-principal x d = height-fall N x (principal x) d (λ k. ok .rank-principal x (principal-node x k) k)
+  pub fall-principal : (x : ℕ) → x ≢ 0 → N .rank (principal x) < N .rank x
+  fall-principal x d = byEq (principal x) 0 (λ e. rw (e, ok .rank-none) (ok .rank-some x d)) (λ k. ok .rank-principal x (principal-node x k) k)
 
-  pub fall-secondary : (x : ℕ) → Reticulation N x → height N (secondary x) < height N x
-  fall-secondary x d = height-fall N x (secondary x) (λ e. d (rw e (ok .zero-secondary))) (λ k. ok .rank-secondary x (reticulation-node x k) k)
+  pub fall-secondary : (x : ℕ) → Reticulation N x → N .rank (secondary x) < N .rank x
+  fall-secondary x d = ok .rank-secondary x (reticulation-node x d) d
 
-  pub falls : (σ : Switching) → Falls (height N) (parent N σ)
+  pub falls : (σ : Switching) → Falls (N .rank) (parent N σ)
   falls σ = record {
     stay = parent-plain N σ 0 (ok .zero-secondary) ∙ ok .zero-principal;
     fall = λ x d. parent-cases N σ x (λ e. rw e (fall-principal x d)) (λ r e. rw e (fall-secondary x r));
   }
 
-  pub falls-principal : Falls (height N) principal
+  pub falls-principal : Falls (N .rank) principal
   falls-principal = record { stay = ok .zero-principal; fall = fall-principal }
 
   -- the laws of `above`
   pub above-self : (σ : Switching) (x : ℕ) → above N σ x x ≡ true
   unfolding above
-  above-self σ = over-self (height N) (parent N σ) (falls σ)
+  above-self σ = over-self (N .rank) (parent N σ) (falls σ)
 
   pub above-parent : (σ : Switching) (v x : ℕ) → above N σ v (parent N σ x) ≡ true → above N σ v x ≡ true
   unfolding above
-  above-parent σ = over-up (height N) (parent N σ) (falls σ)
+  above-parent σ = over-up (N .rank) (parent N σ) (falls σ)
 
   pub above-not : (σ : Switching) (v x : ℕ) → v ≢ x → above N σ v x ≡ above N σ v (parent N σ x)
   unfolding above
-  above-not σ = over-not (height N) (parent N σ) (falls σ)
+  above-not σ = over-not (N .rank) (parent N σ) (falls σ)
 
   pub above-zero : (σ : Switching) (v : ℕ) → v ≢ 0 → above N σ v 0 ≡ false
   unfolding above
-  above-zero σ = over-zero (height N) (parent N σ) (falls σ)
+  above-zero σ = over-zero (N .rank) (parent N σ) (falls σ)
 
   pub above-trans : (σ : Switching) (u v x : ℕ) → above N σ u v ≡ true → above N σ v x ≡ true → above N σ u x ≡ true
   unfolding above
-  above-trans σ = over-trans (height N) (parent N σ) (falls σ)
+  above-trans σ = over-trans (N .rank) (parent N σ) (falls σ)
 
-  pub above-low : (σ : Switching) (v x : ℕ) → above N σ v x ≡ true → v ≢ x → height N v < height N x
+  pub above-low : (σ : Switching) (v x : ℕ) → above N σ v x ≡ true → v ≢ x → N .rank v < N .rank x
   unfolding above
-  above-low σ = over-low (height N) (parent N σ) (falls σ)
+  above-low σ = over-low (N .rank) (parent N σ) (falls σ)
 
   pub above-anti : (σ : Switching) (v x : ℕ) → above N σ v x ≡ true → above N σ x v ≡ true → v ≡ x
   unfolding above
-  above-anti σ = over-anti (height N) (parent N σ) (falls σ)
+  above-anti σ = over-anti (N .rank) (parent N σ) (falls σ)
 
   pub lca-spec : (σ : Switching) (v x y : ℕ) → v ≢ 0 → (above N σ v x && above N σ v y) ≡ above N σ v (lca N σ x y)
   unfolding above lca
-  lca-spec σ = meet-spec (height N) (parent N σ) (falls σ)
+  lca-spec σ = meet-spec (N .rank) (parent N σ) (falls σ)
 
   -- in the principal tree
   pub tree-not : (v x : ℕ) → v ≢ x → above N allPrincipal v x ≡ above N allPrincipal v (principal x)
@@ -136,9 +125,9 @@ module _ (N : Network) (ok : Sound N) where
   unfolding parent onSecondary isReticulation
   tree-parent = above-parent allPrincipal
 
-  -- induction along the heights
-  pub network-ind : (P : ℕ → Type 0) → P 0 → ((x : ℕ) → x ≢ 0 → ((y : ℕ) → height N y < height N x → P y) → P x) → (x : ℕ) → P x
-  network-ind = climb-ind (height N) principal falls-principal
+  -- induction along the ranks
+  pub network-ind : (P : ℕ → Type 0) → P 0 → ((x : ℕ) → x ≢ 0 → ((y : ℕ) → N .rank y < N .rank x → P y) → P x) → (x : ℕ) → P x
+  network-ind = climb-ind (N .rank) principal falls-principal
 
 -- `above` says what it should: a chain of on arcs leads from v to x
 pub above-is : (N : Network) → Sound N → (σ : Switching) (v : ℕ) {x : ℕ} → Above N σ v x → above N σ v x ≡ true

@@ -1,5 +1,5 @@
--- The laws of climbing. A climb of bounded length does not depend on its bound once that covers the height (`fuel`), so `seek`, `over`, `meet`
--- and `along` each satisfy the equation of one step; the rest is induction along the heights (`climb-ind`).
+-- The laws of climbing. A climb of bounded length does not depend on its bound once that covers the rank (`fuel`), so `seek`, `over`, `meet`
+-- and `along` each satisfy the equation of one step; the rest is induction along the ranks (`climb-ind`).
 -- Assumes nothing.
 use mathlib.Core.Path.{_≡_, refl, sym, _∙_, ap}
 use mathlib.Core.Logic.{_≢_}

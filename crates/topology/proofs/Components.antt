@@ -10,7 +10,7 @@ use Rattle.finite.proofs.Cases.{byBool, byEq, clash}
 use Rattle.finite.proofs.Tests.{is-same, same-is, not-same, beq-is, and-l, and-r}
 use Rattle.finite.proofs.Every.{every-at}
 use Rattle.topology.specs.Networks.{Network, Node, Sound, Reticulation, isReticulation}
-use Rattle.topology.specs.Switchings.{Switching, allPrincipal, parent, height, above}
+use Rattle.topology.specs.Switchings.{Switching, allPrincipal, parent, above}
 use Rattle.topology.specs.Components.{isTop, component, memberOf, Agree}
 use Rattle.topology.proofs.Climbing.{seek-eq}
 use Rattle.topology.proofs.Above.{parent-plain, parent-cases, parent-agree, reticulation-node, node-principal, node-secondary, fall-principal, fall-secondary, falls, falls-principal, above-self, above-not, above-zero, above-low, above-anti, tree-not, tree-parent, network-ind, is-reticulation, reticulation-is}
@@ -21,11 +21,11 @@ module _ (N : Network) (ok : Sound N) where
   -- a component is named by the first top above
   pub component-top : (x : ℕ) → isTop N x ≡ true → component N x ≡ x
   unfolding component
-  component-top x t = seek-eq (height N) principal (falls-principal N ok) (isTop N) x ∙ rw t
+  component-top x t = seek-eq (N .rank) principal (falls-principal N ok) (isTop N) x ∙ rw t
 
   pub component-up : (x : ℕ) → isTop N x ≡ false → component N x ≡ component N (principal x)
   unfolding component
-  component-up x t = seek-eq (height N) principal (falls-principal N ok) (isTop N) x ∙ rw t
+  component-up x t = seek-eq (N .rank) principal (falls-principal N ok) (isTop N) x ∙ rw t
 
   pub top-root : (x : ℕ) → principal x ≡ 0 → isTop N x ≡ true
   unfolding isTop
@@ -42,7 +42,7 @@ module _ (N : Network) (ok : Sound N) where
       (λ x d ih. byBool (isTop N x) (λ t. rw (component-top x t) (above-self N ok allPrincipal x))
       (λ t. rw (component-up x t) (tree-parent N ok (component N (principal x)) x (ih (principal x) (fall-principal N ok x d)))))
 
-  pub component-low : (x : ℕ) → height N (component N x) ≤ height N x
+  pub component-low : (x : ℕ) → N .rank (component N x) ≤ N .rank x
   component-low x = byEq (component N x) x (λ e. rw e (omega arith)) (λ d. omega (arith, above-low N ok allPrincipal (component N x) x (component-above x) d))
 
   pub component-node : (x : ℕ) → Node N x → Node N (component N x)
@@ -72,9 +72,9 @@ module _ (N : Network) (ok : Sound N) where
 
   pub reticulation-not-top : (r : ℕ) → Reticulation N r → isTop N r ≡ false
   reticulation-not-top r d = byBool (isTop N r)
-      (λ t. let l : height N (secondary r) < height N r = fall-secondary N ok r d in
+      (λ t. let l : N .rank (secondary r) < N .rank r = fall-secondary N ok r d in
       let a : above N allPrincipal r (secondary r) ≡ true = sym (top-reticulation r r (reticulation-node N ok r d) t d) ∙ above-self N ok allPrincipal r in
-      byEq r (secondary r) (λ e. absurd (omega (arith, ap (height N) e))) (λ q. absurd (omega (arith, above-low N ok allPrincipal r (secondary r) a q))))
+      byEq r (secondary r) (λ e. absurd (omega (arith, ap (N .rank) e))) (λ q. absurd (omega (arith, above-low N ok allPrincipal r (secondary r) a q))))
       (λ t. t)
 
   -- both parents of a reticulation are in its component: each parent's top is a top above both, so each is above the other
@@ -122,7 +122,7 @@ module _ (N : Network) (ok : Sound N) where
       (λ q. byEq (component N v) (component N x)
       (λ e. let u : parent N σ x ≡ parent N τ x = parent-agree N σ τ x (λ r. g x r (sym e)) in
       above-not N ok σ v x q ∙ ap (above N σ v) u ∙ ih (parent N τ x) (falls N ok τ .fall x d) ∙ sym (above-not N ok τ v x q))
-      (λ e. let l : height N (principal (component N x)) < height N (component N x) = fall-principal N ok (component N x) (component-some x d) in
+      (λ e. let l : N .rank (principal (component N x)) < N .rank (component N x) = fall-principal N ok (component N x) (component-some x d) in
       through σ x e ∙ ih (principal (component N x)) (omega (arith, component-low x)) ∙ sym (through τ x e)))) x
     where
       through : (ρ : Switching) (x : ℕ) → component N v ≢ component N x → above N ρ v x ≡ above N ρ v (principal (component N x))

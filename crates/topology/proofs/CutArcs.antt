@@ -11,7 +11,7 @@ use Rattle.finite.proofs.Cases.{byBool, byDec, byEq, clash}
 use Rattle.finite.proofs.Tests.{is-same, not-same, is-beq}
 use Rattle.finite.proofs.Every.{is-every}
 use Rattle.topology.specs.Networks.{Network, Node, Sound, Reticulation}
-use Rattle.topology.specs.Switchings.{allPrincipal, height, above}
+use Rattle.topology.specs.Switchings.{allPrincipal, above}
 use Rattle.topology.specs.Components.{Kind, principalArc, secondaryArc, kinds, tail, Joined, stay, arc, back, via, Every, But, CutArc, Linked, Top, isTop, component}
 use Rattle.topology.proofs.Above.{network-ind, node-principal, node-secondary, principal-node, reticulation-node, fall-principal, tree-not, above-self, above-low}
 use Rattle.topology.proofs.Components.{root-above, top-root, top-reticulation, reticulation-not-top, component-top, component-up, component-secondary, component-node, top-component}
@@ -37,7 +37,7 @@ module _ (N : Network) (ok : Sound N) where
   climb : (A : Kind → ℕ → Type 0) (f : ℕ → ℕ) → ((x : ℕ) → Node N x → Hangs N A f x) → {x : ℕ} → Node N x → Joined N A (f x) x
   climb A f h {x} = network-ind N ok (λ x. Node N x → Joined N A (f x) x) (λ k. absurd (omega arith)) (λ x d ih k. go x d ih k (h x k)) x
     where
-      go : (x : ℕ) → x ≢ 0 → ((y : ℕ) → height N y < height N x → Node N y → Joined N A (f y) y) → Node N x → Hangs N A f x → Joined N A (f x) x
+      go : (x : ℕ) → x ≢ 0 → ((y : ℕ) → N .rank y < N .rank x → Node N y → Joined N A (f y) y) → Node N x → Hangs N A f x → Joined N A (f x) x
       go x d ih k (stop e) = rw e stay
       go x d ih k (climbs z a e) = rw e (via (ih (principal x) (fall-principal N ok x d) (node-principal N ok x k z)) (arc principalArc x z a))
 
@@ -75,8 +75,8 @@ module _ (N : Network) (ok : Sound N) where
 
   -- the arc into w is a cut arc exactly when w is a top
   module _ (w : ℕ) (q : principal w ≢ 0) where
-    higher : (x : ℕ) → height N x < height N w → above N allPrincipal w x ≡ false
-    higher x l = byBool (above N allPrincipal w x) (λ a. byEq w x (λ e. absurd (omega (arith, ap (height N) e))) (λ e. absurd (omega (arith, above-low N ok allPrincipal w x a e)))) (λ a. a)
+    higher : (x : ℕ) → N .rank x < N .rank w → above N allPrincipal w x ≡ false
+    higher x l = byBool (above N allPrincipal w x) (λ a. byEq w x (λ e. absurd (omega (arith, ap (N .rank) e))) (λ e. absurd (omega (arith, above-low N ok allPrincipal w x a e)))) (λ a. a)
 
     outside : above N allPrincipal w (principal w) ≡ false
     outside = higher (principal w) (fall-principal N ok w (omega (arith, principal-node N ok w q)))

@@ -1,9 +1,12 @@
--- The network of lines has their parents, and its nodes are the numbers of the lines. Each law is the definition, said where `network` stays shut.
+-- The network of lines has their parents, and its nodes are the numbers of the lines. Each law is a part of the definition, said where `network` stays shut.
 -- Assumes nothing.
 use mathlib.Core.Path.{_≡_, refl}
 use mathlib.Core.Bool.{Bool, true}
+use mathlib.Core.Logic.{_≢_}
 use Prim.Native.Nat.{ℕ, _≤_}
+use native.Mathlib.Omega.{arith}
 use Rattle.finite.specs.Range.{some}
+use Rattle.finite.proofs.Tests.{is-same, not-same}
 use Rattle.finite.proofs.Every.{some-at, is-some}
 use Rattle.topology.specs.Networks.{Node}
 use Rattle.topology.specs.Lines.{NodeLines, rankOf, network}
@@ -21,9 +24,17 @@ module _ (L : NodeLines) where
   unfolding network
   secondary-is v = refl
 
-  pub rank-is : (v : ℕ) → network L .rank v ≡ rankOf (L .secondary v) (L .stamp v)
+  pub rank-none : network L .rank 0 ≡ 0
   unfolding network
-  rank-is v = refl
+  rank-none = rw (is-same {m = 0} refl)
+
+  pub rank-is : (v : ℕ) → v ≢ 0 → network L .rank v ≡ rankOf (L .secondary v) (L .stamp v)
+  unfolding network
+  rank-is v d = rw (not-same d)
+
+  pub rank-some : (v : ℕ) → v ≢ 0 → 1 ≤ network L .rank v
+  unfolding rankOf
+  rank-some v d = rw (rank-is v d) (omega arith)
 
   pub node-of : (v : ℕ) → 1 ≤ v → v ≤ L .size → Node (network L) v
   unfolding network

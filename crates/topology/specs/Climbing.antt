@@ -1,5 +1,5 @@
 -- Climbing a parent function until a test passes. Everything that goes upwards in a network under a switching, or in its principal tree, is an
--- instance. A climb is bounded by a height that falls at each step, so that the definitions compute.
+-- instance. A climb is bounded by a rank that falls at each step, so that the definitions compute.
 -- Assumes nothing.
 use mathlib.Core.Path.{_≡_}
 use mathlib.Core.Logic.{_≢_}

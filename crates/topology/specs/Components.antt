@@ -9,7 +9,7 @@ use Rattle.finite.specs.Tests.{same, under}
 use Rattle.finite.specs.Range.{every, count}
 use Rattle.topology.specs.Climbing.{seek}
 use Rattle.topology.specs.Networks.{Network, Node, Reticulation, isReticulation}
-use Rattle.topology.specs.Switchings.{Switching, allPrincipal, height, above}
+use Rattle.topology.specs.Switchings.{Switching, allPrincipal, above}
 
 pub data Kind : Type 0 where
   principalArc secondaryArc : Kind
@@ -58,27 +58,27 @@ isTop N w = same (N .principal w) 0
 
 -- a component goes by its top: the first top met when climbing the principal tree from v
 unfoldable pub component : Network → ℕ → ℕ
-component N v = seek (height N) (isTop N) (N .principal) v
+component N v = seek (N .rank) (isTop N) (N .principal) v
 
 -- r is a reticulation of the component with top c
 unfoldable pub memberOf : Network → ℕ → ℕ → Bool
 memberOf N c r = isReticulation N r && same (component N r) c
 
 -- how many reticulations a component has
-unfoldable pub members : Network → ℕ → ℕ
-members N c = count (N .size) (memberOf N c)
+unfoldable pub reticulationCount : Network → ℕ → ℕ
+reticulationCount N c = count (N .size) (memberOf N c)
 
 -- how many reticulations of its component have a lower number than r, and how many of component c a higher one
 unfoldable pub indexOf : Network → ℕ → ℕ
 indexOf N r = count (N .size) (λ q. memberOf N (component N r) q && under q r)
 
-unfoldable pub membersAfter : Network → ℕ → ℕ → ℕ
-membersAfter N c r = count (N .size) (λ q. memberOf N c q && under r q)
+unfoldable pub reticulationsAfter : Network → ℕ → ℕ → ℕ
+reticulationsAfter N c r = count (N .size) (λ q. memberOf N c q && under r q)
 
 -- "A setting of a component with k reticulations is a number below 2^k whose highest bit belongs to the lowest-numbered reticulation, 1 meaning
 -- the secondary parent": the switching that setting x of component c stands for, all other components on principal
 unfoldable pub settingOf : Network → ℕ → ℕ → Switching
-settingOf N c x r = memberOf N c r && same (x / 2 ^ membersAfter N c r % 2) 1
+settingOf N c x r = memberOf N c r && same (x / 2 ^ reticulationsAfter N c r % 2) 1
 
 -- two switchings are alike at the reticulations of component c
 abbrev pub Agree : Network → Switching → Switching → ℕ → Type 0

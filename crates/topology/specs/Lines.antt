@@ -1,6 +1,6 @@
 -- The lines of a sheet as functions of their numbers (01, "The sheet"), and the species network that the network lines describe.
 -- Assumes nothing.
-use mathlib.Core.Bool.{not}
+use mathlib.Core.Bool.{cond, not}
 use Prim.Native.Nat.{ℕ, _+_, _*_}
 use Rattle.finite.specs.Tests.{same, tally}
 use Rattle.topology.specs.Networks.{Network}
@@ -20,9 +20,9 @@ pub record GeneLines : Type 0 where
   pub parent : ℕ → ℕ
   pub species : ℕ → ℕ
 
--- twice the stamp, and one more for a reticulation: a secondary arc keeps the stamp and leads into a reticulation
+-- one more than twice the stamp, and another for a reticulation: a secondary arc keeps the stamp and leads into a reticulation
 unfoldable pub rankOf : (secondary stamp : ℕ) → ℕ
-rankOf secondary stamp = 2 * stamp + tally (not (same secondary 0))
+rankOf secondary stamp = 2 * stamp + 1 + tally (not (same secondary 0))
 
 -- the network of the lines
 unfoldable pub network : NodeLines → Network
@@ -30,5 +30,5 @@ network L = record {
   size = L .size;
   principal = L .principal;
   secondary = L .secondary;
-  rank = λ v. rankOf (L .secondary v) (L .stamp v);
+  rank = λ v. cond (same v 0) 0 (rankOf (L .secondary v) (L .stamp v));
 }

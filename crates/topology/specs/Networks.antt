@@ -7,7 +7,7 @@ use Prim.Native.Nat.{ℕ, _≤_, _<_}
 use Rattle.finite.specs.Tests.{same}
 use Rattle.finite.specs.Range.{count}
 
--- the nodes are 1..size; a node's principal and secondary parent, 0 for none; a rank that rises along every arc
+-- the nodes are 1..size; a node's principal and secondary parent, 0 for none; a rank that rises along every arc, 0 for no node
 pub record Network : Type 0 where
   pub size : ℕ
   pub principal : ℕ → ℕ
@@ -39,6 +39,8 @@ pub record Sound (N : Network) : Type 0 where
   pub out-secondary : (v : ℕ) → N .size < v → N .secondary v ≡ 0
   pub in-principal : (v : ℕ) → Node N v → N .principal v ≤ N .size
   pub in-secondary : (v : ℕ) → Node N v → N .secondary v ≤ N .size
+  pub rank-none : N .rank 0 ≡ 0
+  pub rank-some : (v : ℕ) → v ≢ 0 → 1 ≤ N .rank v
   pub rank-principal : (v : ℕ) → Node N v → N .principal v ≢ 0 → N .rank (N .principal v) < N .rank v
   pub rank-secondary : (v : ℕ) → Node N v → N .secondary v ≢ 0 → N .rank (N .secondary v) < N .rank v
   pub both : (v : ℕ) → Node N v → N .secondary v ≢ 0 → N .principal v ≢ 0

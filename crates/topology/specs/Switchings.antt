@@ -4,7 +4,7 @@
 use mathlib.Core.Path.{_≡_}
 use mathlib.Core.Logic.{_≢_}
 use mathlib.Core.Bool.{Bool, true, false, cond, _&&_}
-use Prim.Native.Nat.{ℕ, suc, _<_}
+use Prim.Native.Nat.{ℕ, _<_}
 use Rattle.finite.specs.Tests.{same}
 use Rattle.finite.specs.Range.{children}
 use Rattle.topology.specs.Climbing.{over, meet}
@@ -30,13 +30,9 @@ parent N σ v = cond (onSecondary N σ v) (N .secondary v) (N .principal v)
 unfoldable pub onArcs : Network → Switching → ℕ → ℕ
 onArcs N σ v = children (N .size) (parent N σ) v
 
--- bounds a climb: 0 for no node, and above every parent's
-unfoldable pub height : Network → ℕ → ℕ
-height N v = cond (same v 0) 0 (suc (N .rank v))
-
 -- x is reached from v along on arcs, a node reaching itself
 unfoldable pub above : Network → Switching → ℕ → ℕ → Bool
-above N σ v x = over (height N) (parent N σ) v x
+above N σ v x = over (N .rank) (parent N σ) v x
 
 -- the same, as a chain of on arcs
 pub data Above (N : Network) (σ : Switching) (v : ℕ) : ℕ → Type 0 where
@@ -45,7 +41,7 @@ pub data Above (N : Network) (σ : Switching) (v : ℕ) : ℕ → Type 0 where
 
 -- the lowest node from which both x and y are reached along on arcs
 unfoldable pub lca : Network → Switching → ℕ → ℕ → ℕ
-lca N σ x y = meet (height N) (parent N σ) x y
+lca N σ x y = meet (N .rank) (parent N σ) x y
 
 -- Whole-network settings are ordered by their reticulations in rising node number, principal before secondary, the first difference deciding (01):
 -- σ and τ agree at D, or σ is principal and τ secondary at the lowest number of D where they differ. D is the reticulations in question

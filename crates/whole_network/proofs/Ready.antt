@@ -7,9 +7,8 @@ use native.Mathlib.Nat.{mul-le-mul-right}
 use native.Mathlib.Omega.{arith}
 use lib.ListN.{length}
 use Rattle.topology.specs.Networks.{Sound}
-use Rattle.topology.specs.Lines.{network}
 use Rattle.layout.specs.declared.Header.{Header}
-use Rattle.layout.specs.Headers.{costs, Limits}
+use Rattle.layout.specs.Headers.{WithinLimits}
 use Rattle.layout.specs.Lines.{nodesIn, nodeSpecies}
 use Rattle.layout.specs.Genes.{geneTree}
 use Rattle.layout.proofs.Numbered.{species-in}
@@ -24,17 +23,9 @@ use Rattle.arcs.specs.Arcs.{first, second, other, order, networkIn, Laid}
 use Rattle.whole_network.specs.Stages.{familyIn, AcceptedIn, Filling, RowsIn, KeptIn}
 
 module _ (h : Header) (lines genes : List ℕ) (ok : AcceptedIn h lines genes) where
-  pub limits : Limits h
-  unfolding network nodesIn geneTree costs
-  limits = record {
-    some-node = omega (arith, ok .sound .root-in .low, ok .sound .root-in .high);
-    few-nodes = ok .limits .nodes;
-    some-gene = ok .rooted .some;
-    few-genes = ok .limits .genes;
-    duplication = ok .limits .duplication;
-    transfer = ok .limits .transfer;
-    loss = ok .limits .loss;
-  }
+  pub limits : WithinLimits h
+  unfolding nodesIn geneTree
+  limits = ok .limits
 
   pub sound : Sound (networkIn (h .nodes) lines)
   sound = ok .sound

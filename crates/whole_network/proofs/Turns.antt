@@ -9,7 +9,6 @@ use native.Mathlib.Omega.{arith}
 use lib.ListN.{length, set, drop, length-drop}
 use Rattle.finite.proofs.Cases.{byEq, byLess}
 use Rattle.layout.specs.declared.Header.{Header}
-use Rattle.layout.specs.Headers.{costs}
 use Rattle.layout.specs.Lines.{nodeSpecies, geneSpecies, nodesIn}
 use Rattle.layout.specs.Genes.{left, right, geneTree}
 use Rattle.layout.proofs.Numbered.{gene-species-in}
@@ -109,7 +108,7 @@ module _ {h : Header} {lines genes arcs s : List ℕ} {r : Row} {i v : ℕ} (S :
   )
 
   step-least : stepping (h .duplication) (h .transfer) (h .loss) (row n s) g (F .gene g) v (F .out v) ≡ least F g v
-  unfolding familyOf nodesIn geneTree costs
+  unfolding familyOf nodesIn geneTree
   step-least = stepping-least (S .prepared) (S .room) (R .low) (R .high) part li ui here
 
   module _ (tips : left genes g ≡ 0) (k : ℕ) (species : k ≡ geneSpecies lines n g) where

@@ -7,7 +7,7 @@ use mathlib.Core.List.{List}
 use Prim.Native.Nat.{ℕ, _-_, _*_, _≤_}
 use lib.ListN.{length}
 use Rattle.layout.specs.declared.Header.{Header}
-use Rattle.layout.specs.Headers.{costs, Limits}
+use Rattle.layout.specs.Headers.{costs, WithinLimits}
 use Rattle.layout.specs.Lines.{nodeSpecies, geneSpecies, nodesIn, genesIn}
 use Rattle.layout.specs.Genes.{left, right, geneTree}
 use Rattle.histories.specs.Histories.{Family}
@@ -28,7 +28,7 @@ AcceptedIn h lines genes = Accepted (nodesIn (h .nodes) lines) (genesIn (h .node
 
 -- the words s have room for the table, and the table of the arcs has the family's arcs and an order in which to fill a row
 pub record Filling (h : Header) (lines genes arcs s : List ℕ) : Type 0 where
-  pub limits : Limits h
+  pub limits : WithinLimits h
   pub prepared : Prepared (familyIn h lines genes) (order arcs)
   pub outs : (v : ℕ) → 1 ≤ v → v ≤ h .nodes → familyIn h lines genes .out v ≡ outBy (first arcs v) (second arcs v) (other arcs v) (nodeSpecies lines v)
   pub room : h .genes * h .nodes ≤ length s

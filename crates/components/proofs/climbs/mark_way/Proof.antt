@@ -3,7 +3,6 @@
 use Prim.Native.Nat.{_+_, _≤_}
 use Rattle.topology.specs.Lines.{network}
 use Rattle.layout.specs.Lines.{nodesIn}
-use Rattle.topology.specs.Switchings.{height}
 use Rattle.components.proofs.Ways.{OnWay, way-start, way-end, turn-left, turn-right, in-left, in-right, less-left, less-right}
 use borrow.Author.Needs.{needs}
 use Rattle.components.proofs.climbs.mark_way.Statement.{statement}
@@ -13,7 +12,7 @@ abbrev Inv-loop : tie.InvT-loop
 Inv-loop n lines parts marks₀ x y a₀ b₀ marks a b = (a ≤ n) × (b ≤ n) × OnWay (network (nodesIn n lines)) marks₀ x y marks a b
 
 abbrev μ-loop : tie.MeasureT-loop
-μ-loop n lines parts marks₀ x y a₀ b₀ marks a b = height (network (nodesIn n lines)) a + height (network (nodesIn n lines)) b
+μ-loop n lines parts marks₀ x y a₀ b₀ marks a b = network (nodesIn n lines) .rank a + network (nodesIn n lines) .rank b
 
 loop-holds : tie.Need-loop-holds Inv-loop μ-loop
 loop-holds c = let s = c .pre in (s .0 .1, s .0 .2, way-start _ _ _ (s .1 .0) (s .1 .1) _ _ _ (s .0 .3))

@@ -4,7 +4,6 @@ use Prim.Native.Nat.{_-_, _≤_}
 use mathlib.Core.Path.{_≡_}
 use Rattle.topology.specs.Lines.{network}
 use Rattle.layout.specs.Lines.{nodesIn}
-use Rattle.topology.specs.Switchings.{height}
 use Rattle.topology.specs.Components.{component}
 use Rattle.components.proofs.Ways.{top-end, up-low, up-high, up-less, up-same}
 use borrow.Author.Needs.{needs}
@@ -15,7 +14,7 @@ abbrev Inv-loop : tie.InvT-loop
 Inv-loop n lines marks v a₀ a = (1 ≤ a) × (a ≤ n) × (component (network (nodesIn n lines)) a ≡ component (network (nodesIn n lines)) v)
 
 abbrev μ-loop : tie.MeasureT-loop
-μ-loop n lines marks v a₀ a = height (network (nodesIn n lines)) a
+μ-loop n lines marks v a₀ a = network (nodesIn n lines) .rank a
 
 loop-holds : tie.Need-loop-holds Inv-loop μ-loop
 loop-holds c = search needs
