@@ -30,9 +30,10 @@ use Rattle.histories.specs.Words.{word}
 use Rattle.histories.specs.Families.{familyOf}
 use Rattle.report.specs.Reports.{reportOf}
 use Rattle.report.specs.declared.Totals.{Totals}
-use Rattle.score.specs.Families.{Contents, nodeLines, geneLines, contentsOf, networkIn, geneTreeIn, familyIn, reported}
+use Rattle.family.specs.Families.{Contents, networkIn, geneTreeIn, familyIn, reported}
+use Rattle.family.specs.Reports.{componentCount, totalsIn, reportIn}
+use Rattle.score.specs.Contents.{nodeLines, geneLines, contentsOf}
 use Rattle.score.specs.Refusals.{bufferRefusals, textRefusals, curatorRefusals, refusals, refusal}
-use Rattle.score.specs.Outcome.{componentCount, totalsIn, reportIn}
 
 -- f at 1..n as a list
 unfoldable pub listed : ℕ → (ℕ → ℕ) → List ℕ

@@ -24,7 +24,7 @@ use Rattle.displayed.specs.Displays.{switched, display, twoArcs, base}
 use Rattle.displayed.specs.Model.{place, event, transfers, losses, duplicationCount, transferCount, lossCount, lcaCost}
 use Rattle.optimum.specs.Optimum.{trial, bestSetting, assembled, trialsOf, settings, trials}
 use Rattle.report.specs.Reports.{totalsLines, linesWhere, reportOf}
-use Rattle.score.specs.Families.{networkIn}
+use Rattle.family.specs.Families.{networkIn}
 use Rattle.score.specs.Refusals.{bufferRefusals, textRefusals, curatorRefusals}
 
 unfoldable pub open-Finite : Unit {0}

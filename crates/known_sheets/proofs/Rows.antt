@@ -14,9 +14,11 @@ use Rattle.histories.specs.Words.{words}
 use Rattle.score.specs.declared.Answer.{Answer}
 use Rattle.score.specs.declared.Answer.the-variants.{Report, Refused}
 use Rattle.network.specs.Accepted.{NoOthers}
-use Rattle.score.specs.Families.{Contents, contentsOf, familyIn}
+use Rattle.family.specs.Families.{Contents, familyIn}
+use Rattle.family.specs.Reports.{reportIn}
+use Rattle.score.specs.Contents.{contentsOf}
 use Rattle.score.specs.Refusals.{refusal}
-use Rattle.score.specs.Outcome.{reportIn, answerBy, resultBy, scratchBy}
+use Rattle.score.specs.Outcome.{answerBy, resultBy, scratchBy}
 use Rattle.known_sheets.specs.Rows.{Row, Known}
 use Rattle.score.proofs.Promises.{no-others}
 use Rattle.known_sheets.proofs.Frozen.{frozenContents, contents-frozen, refusalWith, refusal-is, frozenFamily, family-frozen, frozenReport, report-frozen}

@@ -16,9 +16,11 @@ use Rattle.components.specs.Refusals.{componentRefusals}
 use Rattle.gene_tree.specs.Refusals.{geneRefusals, speciesRefusals}
 use Rattle.score.specs.declared.Answer.{Answer}
 use Rattle.score.specs.declared.Answer.the-variants.{Report, Refused}
-use Rattle.score.specs.Families.{Contents, contentsOf}
+use Rattle.family.specs.Families.{Contents}
+use Rattle.family.specs.Reports.{reportIn}
+use Rattle.score.specs.Contents.{contentsOf}
 use Rattle.score.specs.Refusals.{bufferRefusals, textRefusals, curatorRefusals, refusals, refusal}
-use Rattle.score.specs.Outcome.{reportIn, answerBy, resultBy, Promise}
+use Rattle.score.specs.Outcome.{answerBy, resultBy, Promise}
 
 apart : {A : Type 0} {b k : ℕ} → Report b ≡ Refused k → A
 apart e = let z : _≡_ {A = ℕ} 0 1 = cc in absurd (omega arith)

@@ -1,5 +1,4 @@
 pub mod Answers
 pub mod Refusals
 pub mod Outcomes
-pub mod Reports
 pub mod Promises

@@ -32,10 +32,12 @@ use Rattle.sheet.proofs.Storing.{cells-at}
 use Rattle.sheet.proofs.Refusals.{nodes-told, genes-told, cell-small}
 use Rattle.score.specs.declared.Answer.{Answer}
 use Rattle.score.specs.declared.Answer.the-variants.{Report, Refused}
-use Rattle.score.specs.Families.{Contents, nodeLines, geneLines, contentsOf}
-use Rattle.score.specs.Refusals.{leastWords, leastBytes, curatorRefusals, refusal}
+use Rattle.family.specs.Families.{Contents}
+use Rattle.family.specs.Stages.{leastWords, leastBytes, contentsBy, Written}
+use Rattle.score.specs.Contents.{nodeLines, geneLines, contentsOf}
+use Rattle.score.specs.Refusals.{curatorRefusals, refusal}
 use Rattle.score.specs.Outcome.{answerBy, resultBy, scratchBy, Outcome}
-use Rattle.score.specs.Stages.{contentsBy, Sized, Written, OutcomeBy, OutcomeOf}
+use Rattle.score.specs.Stages.{Numbered, OutcomeBy, OutcomeOf}
 use Rattle.score.proofs.Refusals.{refusal-1, refusal-2, refusal-3, refusal-4, refusal-5, refusal-later}
 
 -- a refusal, and a report
@@ -152,8 +154,11 @@ module _ (s : List ℕ) (h : Header) (k : HeaderIs s h) where
           omega (arith, e, cell-is v 3 (omega arith) (omega arith), cell-small s v 3);
     }
 
-    pub sized : (b w : ℕ) → leastBytes ≤ b → leastWords ≤ w → Sized h cells b w
-    sized b w lb lw = record { limits = k .limited; stamps = subst (λ (x : Header). Dated (x .nodes) cells) (sym (k .header)) stamps-small; room = lb; space = lw }
+    pub numbered : (b w : ℕ) → leastBytes ≤ b → leastWords ≤ w → Numbered h cells b w
+    numbered b w lb lw = record {
+      sized = record { limits = k .limited; room = lb; space = lw };
+      stamps = subst (λ (x : Header). Dated (x .nodes) cells) (sym (k .header)) stamps-small;
+    }
 
     -- the outcome of the lines is the sheet's
     pub five-passed : (d e u t : List ℕ) (r : Answer) → leastBytes ≤ length d → leastWords ≤ length u → refusal5 s ≡ false → OutcomeBy h cells d e u t r → OutcomeOf s d e u t r

@@ -1,12 +1,11 @@
 -- The promise of the call follows from its outcome: the answer says which refusal was the first, the refusals' conditions say when that is, and a
 -- sheet that none applies to is one of which the theorems on the optimum and on histories speak.
 -- Assumes nothing.
-use Prim.Native.Nat.{ℕ, _≤_}
+use Prim.Native.Nat.{ℕ}
 use mathlib.Core.Path.{_≡_, sym, _∙_}
 use mathlib.Core.Logic.{_≢_}
-use mathlib.Core.List.{List, _++_}
-use lib.ListN.{length, getD}
-use native.Mathlib.Omega.{arith}
+use mathlib.Core.List.{List}
+use lib.ListN.{length}
 use Rattle.finite.specs.Refusals.{First, NoneApplies}
 use Rattle.finite.proofs.Tests.{not-false}
 use Rattle.network.proofs.Acceptance.{none-outside}
@@ -16,21 +15,14 @@ use Rattle.layout.specs.Headers.{costs, WithinLimits}
 use Rattle.sheet.specs.Sheets.{headerIn, refusal4}
 use Rattle.sheet.proofs.Limits.{limits-is}
 use Rattle.network.specs.Accepted.{NoOthers}
-use Rattle.displayed.specs.Model.{lcaCost}
-use Rattle.gene_tree.specs.Genes.{geneTreeOf}
-use Rattle.gene_tree.proofs.Genes.{count-at}
-use Rattle.optimum.proofs.Search.{search-state, search-stops, search-agree}
-use Rattle.histories.specs.Histories.{Least}
-use Rattle.histories.specs.Words.{costOf, cell, words}
-use Rattle.histories.specs.Families.{familyOf}
-use Rattle.histories.proofs.Promise.{overall-least, each-word}
 use Rattle.acceptance.specs.Admitted.{Admitted}
-use Rattle.acceptance.proofs.Mapped.{sound, optimal}
-use Rattle.acceptance.proofs.Whole.{whole-accepted}
 use Rattle.score.specs.declared.Answer.{Answer}
-use Rattle.score.specs.Families.{Contents, nodeLines, geneLines, contentsOf, networkIn, geneTreeIn, familyIn, reported}
+use Rattle.family.specs.Families.{Contents}
+use Rattle.family.specs.Reports.{Reported}
+use Rattle.family.proofs.Reported.{is-reported}
+use Rattle.score.specs.Contents.{nodeLines, geneLines, contentsOf}
 use Rattle.score.specs.Refusals.{refusals, refusal}
-use Rattle.score.specs.Outcome.{Outcome, Reported, Promise}
+use Rattle.score.specs.Outcome.{Outcome, Promise}
 use Rattle.score.proofs.Answers.{answer-refused, refused-answer, answer-report, report-answer}
 use Rattle.score.proofs.Refusals.{all-tells, text-passes, curators-pass, none-passes}
 
@@ -60,21 +52,8 @@ module _ (s : List ℕ) (b w : ℕ) (e : refusal s b w ≡ 0) where
         genes = p .genes;
       }
 
-  each-least : (g v : ℕ) → 1 ≤ g → g ≤ X .genes .count → 1 ≤ v → v ≤ X .nodes .size → (rest : List ℕ) → Least (familyIn X) g v (costOf (getD (words (familyIn X) ++ rest) (cell (X .nodes .size) g v) 0))
-  unfolding familyIn familyOf
-  each-least g v lg ug lv uv rest =
-      each-word (X .nodes) (X .genes) (geneTreeOf (X .nodes) (X .genes)) (X .costs) (whole-accepted (X .nodes) (X .genes) (X .costs) admitted) g v lg (omega (arith, count-at (X .nodes) (X .genes))) lv uv rest
-
-  pub is-reported : Reported (contentsOf s)
-  unfolding networkIn geneTreeIn familyIn reported
-  is-reported = record {
-    optimal = optimal (X .nodes) (X .genes) (X .costs) admitted;
-    steps = λ t l. search-state (networkIn X) (geneTreeIn X) (X .costs) t (omega arith);
-    stops = search-stops (networkIn X) (geneTreeIn X) (X .costs);
-    last = λ r d. sym (search-agree (networkIn X) (sound (X .nodes) (X .genes) (X .costs) admitted) (lcaCost (networkIn X) (geneTreeIn X) (X .costs)) r d);
-    each = each-least;
-    whole = overall-least (X .nodes) (X .genes) (geneTreeIn X) (X .costs) (whole-accepted (X .nodes) (X .genes) (X .costs) admitted);
-  }
+  pub reported-is : Reported (contentsOf s)
+  reported-is = is-reported X admitted
 
 -- the verdict and the conditions
 module _ (s : List ℕ) (b w : ℕ) where
@@ -105,5 +84,5 @@ promise s d e u t r o =
       refuses = λ k f. o .answer ∙ refused-answer k (refusal s b w) (contentsOf s) (first-some (refusals s b w) T k f) (of-first s b w k f);
       scored = λ x a. none-of s b w (answer-report (refusal s b w) (contentsOf s) x (sym (o .answer) ∙ a) .0);
       scores = λ n. o .answer ∙ report-answer (refusal s b w) (contentsOf s) (of-none s b w n);
-      reported = λ x a. is-reported s b w (answer-report (refusal s b w) (contentsOf s) x (sym (o .answer) ∙ a) .0);
+      reported = λ x a. reported-is s b w (answer-report (refusal s b w) (contentsOf s) x (sym (o .answer) ∙ a) .0);
     }

@@ -5,7 +5,7 @@ use Prim.Native.Nat.{ℕ, _≤_, _<_}
 use mathlib.Core.Path.{_≡_, sym, _∙_}
 use mathlib.Core.Logic.{_≢_, _↔_}
 use mathlib.Core.Bool.{true, false}
-use mathlib.Core.List.{List, [], _++_}
+use mathlib.Core.List.{List, _++_}
 use native.Mathlib.Omega.{arith}
 use Rattle.finite.specs.Tests.{under}
 use Rattle.finite.specs.Refusals.{verdict, AllTell, no-more, one-more}
@@ -23,9 +23,10 @@ use Rattle.components.specs.Refusals.{componentRefusals}
 use Rattle.components.proofs.Readings.{components-tell}
 use Rattle.gene_tree.specs.Refusals.{geneRefusals}
 use Rattle.gene_tree.proofs.Refusals.{gene-tell}
-use Rattle.score.specs.Families.{Contents, contentsOf}
-use Rattle.score.specs.Refusals.{leastWords, leastBytes, bufferRefusals, textRefusals, curatorRefusals, refusals, refusal}
-use Rattle.score.specs.Stages.{Passed}
+use Rattle.family.specs.Families.{Contents}
+use Rattle.family.specs.Stages.{leastWords, leastBytes, Passed}
+use Rattle.score.specs.Contents.{contentsOf}
+use Rattle.score.specs.Refusals.{bufferRefusals, textRefusals, curatorRefusals, refusals, refusal}
 
 under-iff : (m n : ℕ) → (under m n ≡ true) ↔ (m < n)
 under-iff m n = (under-is m n, λ l. is-under l)

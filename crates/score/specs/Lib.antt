@@ -1,4 +1,4 @@
-pub mod Families
+pub mod Contents
 pub mod Refusals
 pub mod Outcome
 pub mod Stages

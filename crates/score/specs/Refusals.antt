@@ -9,16 +9,11 @@ use Rattle.sheet.specs.Sheets.{headerIn, nodes, genes, Line, WellFormed, refusa
 use Rattle.network.specs.Refusals.{networkRefusals}
 use Rattle.components.specs.Refusals.{componentRefusals}
 use Rattle.gene_tree.specs.Refusals.{geneRefusals}
-use Rattle.score.specs.Families.{Contents, contentsOf}
+use Rattle.family.specs.Families.{Contents}
+use Rattle.family.specs.Stages.{leastWords, leastBytes}
+use Rattle.score.specs.Contents.{contentsOf}
 
--- "scratch under 16,129 words of 32 bits"; "result under 5,952 bytes"
-abbrev pub leastWords : ℕ
-leastWords = 16129
-
-abbrev pub leastBytes : ℕ
-leastBytes = 5952
-
--- "The calling program", of a result of so many bytes and a scratch of so many words
+-- "The calling program": "scratch under 16,129 words of 32 bits", "result under 5,952 bytes", of a result of so many bytes and a scratch of so many words
 unfoldable pub bufferRefusals : (bytes words : ℕ) → List Refusal
 bufferRefusals bytes words =
     record { number = 1; test = under words leastWords; condition = words < leastWords }

@@ -13,10 +13,10 @@ use Rattle.score.proofs.score_components.Tie as tie
 
 fill-requires : tie.Need-fill-requires
 unfolding blank
-fill-requires c κs = let p = c .before .before .before .pre in (p .0 .limits .few-nodes, sound-in _ _ (p .1), p .0 .stamps, refl)
+fill-requires c κs = let p = c .before .before .before .pre in (p .0 .sized .limits .few-nodes, sound-in _ _ (p .1), p .0 .stamps, refl)
 
 crowded-requires : tie.Need-crowded-requires
-crowded-requires c κs = (c .before .before .before .before .before .pre .0 .limits .few-nodes, c .before .fill .ensures)
+crowded-requires c κs = (c .before .before .before .before .before .pre .0 .sized .limits .few-nodes, c .before .fill .ensures)
 
 returns : tie.Need-returns
 returns c =
@@ -27,7 +27,8 @@ returns c =
 score-genes-requires : tie.Need-score-genes-requires
 score-genes-requires c κs =
     let p = c .before .before .before .before .before .before .before .before .before .before .pre in
-    (p .0, record { network = p .1; component = verdict-uncrowded _ (sym (c .before .before .before .before .crowded .ensures) ∙ c .before .before .before .if1 .left) }, c .before .before .before .before .before .before .fill .ensures)
+    let few = c .before .before .before .before .crowded .ensures in
+    (p .0 .sized, record { network = p .1; component = verdict-uncrowded _ (sym few ∙ c .before .before .before .if1 .left) }, c .before .before .before .before .before .before .fill .ensures)
 
 same-length : tie.Need-same-length
 same-length c = search needs

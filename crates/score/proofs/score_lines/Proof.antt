@@ -1,7 +1,7 @@
 -- A sheet whose header is within the limits: 5 where the length or a later line is amiss, else the outcome of its lines.
 -- Assumes nothing.
 use native.Mathlib.Omega.{arith}
-use Rattle.score.proofs.Outcomes.{header-is, not-whole, nodes-amiss, genes-amiss, all-well, sized, five-passed, five-refused}
+use Rattle.score.proofs.Outcomes.{header-is, not-whole, nodes-amiss, genes-amiss, all-well, numbered, five-passed, five-refused}
 use Rattle.sheet.proofs.Storing.{cells-start}
 use borrow.Author.Needs.{needs}
 use Rattle.score.proofs.score_lines.Statement.{statement}
@@ -26,7 +26,7 @@ cells-requires : tie.Need-cells-requires
 cells-requires c κs = let f = header-is _ _ (c .before .before .before .before .before .before .pre .header) .limited in (omega (arith, f .few-nodes, f .few-genes), cells-start _)
 
 nodes-in-order-requires : tie.Need-nodes-in-order-requires
-nodes-in-order-requires c κs = let f = header-is _ _ (c .before .before .before .before .before .before .before .before .pre .header) .limited in f .few-nodes
+nodes-in-order-requires c κs = let f = header-is _ _ (c .before .before .before .before .before .before .before .before .pre .header) .limited in omega (arith, f .few-nodes, f .few-genes)
 
 returns-2 : tie.Need-returns-2
 returns-2 c =
@@ -46,7 +46,7 @@ returns-3 c =
 score-network-requires : tie.Need-score-network-requires
 score-network-requires c κs =
     let p = c .before .before .before .before .before .before .before .before .before .before .before .before .before .before .before .before .pre in
-    sized _ _ (header-is _ _ (p .header)) _ (c .before .before .before .before .before .before .before .before .before .cells .ensures) _ _ (p .room) (p .space)
+    numbered _ _ (header-is _ _ (p .header)) _ (c .before .before .before .before .before .before .before .before .before .cells .ensures) _ _ (p .room) (p .space)
 
 same-length : tie.Need-same-length
 same-length c = search needs

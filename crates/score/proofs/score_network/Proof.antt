@@ -9,7 +9,7 @@ use Rattle.score.proofs.score_network.Statement.{statement}
 use Rattle.score.proofs.score_network.Tie as tie
 
 verdict-requires : tie.Need-verdict-requires
-verdict-requires c κs = c .before .before .pre .limits .few-nodes
+verdict-requires c κs = let s = c .before .before .pre .sized in search needs
 
 returns : tie.Need-returns
 returns c = refuses _ _ _ _ _ (network-refuses _ (no-others _ _) _ (c .before .verdict .ensures) (c .if1 .taken)) (c .if1 .taken)

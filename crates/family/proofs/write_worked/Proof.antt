@@ -2,10 +2,10 @@
 -- Assumes nothing.
 use Rattle.tables.specs.Columns.{blank}
 use mathlib.Core.Path.{refl}
-use Rattle.score.proofs.Reports.{prepares, whole-ready, whole-room, nodes-small, genes-small, report-room, totals-fit, written-family}
+use Rattle.family.proofs.Reports.{prepares, whole-ready, whole-room, nodes-small, genes-small, report-room, totals-fit, written-family}
 use borrow.Author.Needs.{needs}
-use Rattle.score.proofs.write_worked.Statement.{statement}
-use Rattle.score.proofs.write_worked.Tie as tie
+use Rattle.family.proofs.write_worked.Statement.{statement}
+use Rattle.family.proofs.write_worked.Tie as tie
 
 run-requires : tie.Need-run-requires
 unfolding blank

@@ -13,8 +13,8 @@ use mathlib.Core.List.{List}
 use native.Mathlib.Omega.{arith}
 use Rattle.finite.specs.Tests.{same, tally}
 use Prim.Native.Nat.{ℕ, _+_, _-_, _≤_, _<_}
-use Rattle.score.proofs.reticulations.Statement.{statement}
-use Rattle.score.proofs.reticulations.Tie as tie
+use Rattle.family.proofs.reticulations.Statement.{statement}
+use Rattle.family.proofs.reticulations.Tie as tie
 
 -- a node of the lines is a reticulation where it has a secondary parent
 reticulation-told : (n : ℕ) (l : List ℕ) (v x : ℕ) → v < n → x ≡ secondary l (v + 1) → tally (not (same x 0)) ≡ tally (isReticulation (network (nodesIn n l)) (v + 1))

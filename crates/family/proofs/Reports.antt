@@ -51,16 +51,16 @@ use Rattle.report.specs.declared.Totals.{Totals}
 use Rattle.report.specs.Reports.{SmallTotals, reportLength}
 use Rattle.report.specs.Tables.{reticulationIn, tabledReport, SmallNodes, SmallGenes}
 use Rattle.report.proofs.Writing.{length-report, report-same}
-use Rattle.score.specs.Families.{Contents, networkIn, geneTreeIn, familyIn, reported}
-use Rattle.score.specs.Outcome.{componentCount, totalsIn, reportIn}
-use Rattle.score.specs.Stages.{contentsBy, Sized, Passed, Worked, totalsBy, Written}
+use Rattle.family.specs.Families.{Contents, networkIn, geneTreeIn, familyIn, reported}
+use Rattle.family.specs.Reports.{componentCount, totalsIn, reportIn}
+use Rattle.family.specs.Stages.{contentsBy, Sized, Passed, Worked, totalsBy, Written}
 
 -- what is no reticulation is set by no setting
 plain : (N : Network) (r : ℕ) → N .secondary r ≡ 0 → (c y : ℕ) → settingOf N c y r ≡ false
 unfolding settingOf memberOf isReticulation
 plain N r e c y = rw (is-same e)
 
-module _ (h : Header) (lines : List ℕ) (b w : ℕ) (S : Sized h lines b w) (P : Passed (contentsBy h lines)) where
+module _ (h : Header) (lines : List ℕ) (b w : ℕ) (S : Sized h b w) (P : Passed (contentsBy h lines)) where
   abbrev L : NodeLines
   L = nodesIn (h .nodes) lines
 

@@ -1,9 +1,9 @@
 -- The numbers of the first two lines: those that were found, and the two counts.
 -- Assumes nothing.
-use Rattle.score.specs.Stages.{totalsBy}
+use Rattle.family.specs.Stages.{totalsBy}
 use borrow.Author.Needs.{needs}
-use Rattle.score.proofs.totals.Statement.{statement}
-use Rattle.score.proofs.totals.Tie as tie
+use Rattle.family.proofs.totals.Statement.{statement}
+use Rattle.family.proofs.totals.Tie as tie
 
 cast-t7 : tie.Need-cast-t7
 cast-t7 c = search needs

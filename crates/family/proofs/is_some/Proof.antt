@@ -2,8 +2,8 @@
 -- Assumes nothing.
 use borrow.Author.Needs.{needs}
 use Rattle.finite.proofs.Tests.{is-same, not-same}
-use Rattle.score.proofs.is_some.Statement.{statement}
-use Rattle.score.proofs.is_some.Tie as tie
+use Rattle.family.proofs.is_some.Statement.{statement}
+use Rattle.family.proofs.is_some.Tie as tie
 
 returns : tie.Need-returns
 returns c = (rw (is-same (c .if1 .taken)), search needs)

@@ -11,8 +11,8 @@ use Rattle.finite.proofs.Count.{count-start, count-turn, count-done}
 use Rattle.finite.specs.Range.{count}
 use mathlib.Core.Path.{_≡_}
 use Prim.Native.Nat.{_-_, _≤_}
-use Rattle.score.proofs.components_with_any.Statement.{statement}
-use Rattle.score.proofs.components_with_any.Tie as tie
+use Rattle.family.proofs.components_with_any.Statement.{statement}
+use Rattle.family.proofs.components_with_any.Tie as tie
 
 abbrev Inv-loop : tie.InvT-loop
 Inv-loop n parts r₀ v₀ r v = (v ≤ n) × (r ≤ v) × (r ≡ count v (λ w. not (same (reticulationCount parts w) 0)))

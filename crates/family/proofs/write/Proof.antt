@@ -3,8 +3,8 @@
 use Rattle.tables.specs.Columns.{blank}
 use mathlib.Core.Path.{refl}
 use borrow.Author.Needs.{needs}
-use Rattle.score.proofs.write_family.Statement.{statement}
-use Rattle.score.proofs.write_family.Tie as tie
+use Rattle.family.proofs.write.Statement.{statement}
+use Rattle.family.proofs.write.Tie as tie
 
 fill-requires : tie.Need-fill-requires
 unfolding blank
@@ -22,6 +22,6 @@ same-length-2 c = search needs
 returns : tie.Need-returns
 returns c = c .before .before .before .before .write-worked .ensures
 
-pub write-family-spec : {M : Type 1} → statement M
-write-family-spec =
+pub write-spec : {M : Type 1} → statement M
+write-spec =
     tie.close (tie.spec fill-requires write-worked-requires same-length same-length-2 returns)

@@ -1,0 +1,3 @@
+pub mod Families
+pub mod Reports
+pub mod Stages
