@@ -9,7 +9,7 @@ use Rattle.finite.specs.Range.{count, children}
 use Rattle.topology.specs.Networks.{Network, Node, Sound, isReticulation, reticulations}
 use Rattle.topology.specs.Switchings.{Switching, parent}
 use Rattle.topology.specs.Components.{component, reticulationCount}
-use Rattle.topology.specs.Lines.{NodeLines, GeneLines, network}
+use Rattle.topology.specs.Lines.{Gene, NodeLines, GeneLines, network}
 use Rattle.topology.proofs.Above.{parent-cases, byNode}
 use Rattle.shapes.specs.Refusals.{Shape, IsLeaf, reticulation, inner, leaf}
 use Rattle.network.specs.Accepted.{AcceptedNetwork}
@@ -21,7 +21,6 @@ use Rattle.reconciliation.specs.Costs.{Costs}
 use Rattle.reconciliation.specs.Limits.{Limits}
 use Rattle.displayed.specs.Model.{place, event, transfers, losses, duplicationCount, transferCount, lossCount, lcaCost}
 use Rattle.displayed.proofs.Model.{place-node, event-small, transfers-le, losses-le}
-use Rattle.gene_tree.specs.Refusals.{Gene}
 use Rattle.gene_tree.specs.Genes.{geneTreeOf, SeatAt}
 use Rattle.gene_tree.proofs.Refusals.{accept-12, accept-13}
 use Rattle.gene_tree.proofs.Genes.{count-at}
@@ -61,10 +60,10 @@ module _ (L : NodeLines) (K : GeneLines) (C : Costs) (ok : Admitted L K C) where
   gene : (g : ℕ) → 1 ≤ g → g ≤ G .count → Gene K g
   gene g l u = record { low = l; high = omega (arith, count-at L K) }
 
-  seat-at : (g : ℕ) → 1 ≤ g → g ≤ G .count → G .left g ≡ 0 → SeatAt L K g (G .leaf g)
+  pub seat-at : (g : ℕ) → 1 ≤ g → g ≤ G .count → G .left g ≡ 0 → SeatAt L K g (G .leaf g)
   seat-at g l u e = T.seated L (accept-13 L K (ok .genes)) g (gene g l u) e
 
-  seat-node : (g : ℕ) → 1 ≤ g → g ≤ G .count → G .left g ≡ 0 → Node N (G .leaf g)
+  pub seat-node : (g : ℕ) → 1 ≤ g → g ≤ G .count → G .left g ≡ 0 → Node N (G .leaf g)
   seat-node g l u e = let s = seat-at g l u e in record { low = s .low; high = omega (arith, size-is, s .high) }
 
   -- a node with a species is a leaf

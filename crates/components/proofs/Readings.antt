@@ -17,21 +17,14 @@ use Rattle.topology.specs.Components.{Linked, component, memberOf, reticulation
 use Rattle.topology.specs.Lines.{NodeLines, network}
 use Rattle.topology.proofs.Above.{reticulation-node}
 use Rattle.topology.proofs.Components.{member-is, is-member, component-node}
-use Rattle.topology.proofs.CutArcs.{linked-iff}
+use Rattle.topology.proofs.CutArcs.{member-iff}
 use Rattle.components.specs.Refusals.{crowdedAt, refusal11, Refusal11, componentRefusals}
 
 module _ (N : Network) (ok : Sound N) where
-  -- the reticulations that a node is linked with are the reticulations of its component
-  pub member-iff : (v r : ℕ) → Node N v → (memberOf N (component N v) r ≡ true) ↔ (Reticulation N r × Linked N v r)
-  member-iff v r k = (
-    (λ t. let m = member-is N (component N v) r t in (m .0, linked-iff N ok v r k (reticulation-node N ok r (m .0)) .1 (sym (m .1)))),
-    λ m. is-member N (component N v) r (m .0) (sym (linked-iff N ok v r k (reticulation-node N ok r (m .0)) .0 (m .1))),
-  )
-
-  -- so a test that tells the reticulations linked with v counts the reticulations of v's component
+  -- a test that tells the reticulations linked with v counts the reticulations of v's component
   pub reticulations-counted : (v : ℕ) → Node N v → (inside : ℕ → Bool) → ((r : ℕ) → (inside r ≡ true) ↔ (Reticulation N r × Linked N v r)) → count (N .size) inside ≡ reticulationCount N (component N v)
   unfolding reticulationCount
-  reticulations-counted v k inside h = count-same (N .size) inside (memberOf N (component N v)) (λ r _ _. test-iff (inside r) (memberOf N (component N v) r) (λ t. member-iff v r k .1 (h r .0 t)) (λ t. h r .1 (member-iff v r k .0 t)))
+  reticulations-counted v k inside h = count-same (N .size) inside (memberOf N (component N v)) (λ r _ _. test-iff (inside r) (memberOf N (component N v) r) (λ t. member-iff N ok v r k .1 (h r .0 t)) (λ t. h r .1 (member-iff N ok v r k .0 t)))
 
   -- a component of more than 8 reticulations is the class of one of them
   pub crowded-is : (c : ℕ) → 8 < reticulationCount N c → Refusal11 N
@@ -39,7 +32,7 @@ module _ (N : Network) (ok : Sound N) where
   crowded-is c l = let f = count-find (N .size) (memberOf N c) (omega arith) in
       let m = member-is N c (f .0) (f .3) in
       let k = reticulation-node N ok (f .0) (m .0) in
-      record { node = f .0; is-node = k; inside = memberOf N (component N (f .0)); inside-iff = λ r. member-iff (f .0) r k; more = rw (m .1) l }
+      record { node = f .0; is-node = k; inside = memberOf N (component N (f .0)); inside-iff = λ r. member-iff N ok (f .0) r k; more = rw (m .1) l }
 
   from-11 : refusal11 N ≡ true → Refusal11 N
   unfolding refusal11 crowdedAt

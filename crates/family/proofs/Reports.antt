@@ -16,7 +16,7 @@ use Rattle.finite.proofs.Count.{count-same, count-le}
 use Rattle.columns.specs.Lines.{written}
 use Rattle.topology.specs.Networks.{Network, Node, Sound, isReticulation, reticulations}
 use Rattle.topology.specs.Switchings.{Switching, onSecondary, parent}
-use Rattle.topology.specs.Components.{component, reticulationCount, memberOf, settingOf}
+use Rattle.topology.specs.Components.{component, reticulationCount, componentCount, memberOf, settingOf}
 use Rattle.topology.specs.Lines.{NodeLines, GeneLines, network}
 use Rattle.topology.proofs.Above.{reticulation-node}
 use Rattle.topology.proofs.Components.{component-node}
@@ -52,7 +52,7 @@ use Rattle.report.specs.Reports.{SmallTotals, reportLength}
 use Rattle.report.specs.Tables.{reticulationIn, tabledReport, SmallNodes, SmallGenes}
 use Rattle.report.proofs.Writing.{length-report, report-same}
 use Rattle.family.specs.Families.{Contents, networkIn, geneTreeIn, familyIn, reported}
-use Rattle.family.specs.Reports.{componentCount, totalsIn, reportIn}
+use Rattle.family.specs.Reports.{totalsIn, reportIn}
 use Rattle.family.specs.Stages.{contentsBy, Sized, Passed, Worked, totalsBy, Written}
 
 -- what is no reticulation is set by no setting

@@ -7,21 +7,22 @@ use Prim.Native.Nat.{ℕ, _+_, _≤_, _<_}
 use lib.ListN.{getD}
 use Rattle.finite.specs.Tests.{same, tally}
 use Rattle.finite.specs.Range.{count}
-use Rattle.topology.specs.Networks.{Network, Reticulation, isReticulation, reticulations}
+use Rattle.topology.specs.Networks.{Node, Reticulation, isReticulation, reticulations}
 use Rattle.topology.specs.Switchings.{onSecondary, parent}
-use Rattle.topology.specs.Components.{component, reticulationCount}
+use Rattle.topology.specs.Lines.{Gene}
+use Rattle.topology.specs.Components.{component, reticulationCount, componentCount}
 use Rattle.displayed.specs.Model.{place, event, transfers, losses, duplicationCount, transferCount, lossCount, lcaCost}
 use Rattle.optimum.specs.Optimum.{assembled, trials, Optimal}
 use Rattle.optimum.specs.Machine.{searchAfter, AsScored}
 use Rattle.histories.specs.Histories.{Least, LeastOverall, overall}
+use Rattle.histories.specs.Families.{Describes}
 use Rattle.histories.specs.Words.{word, costOf, cell, words}
-use Rattle.report.specs.Reports.{reportOf}
+use Rattle.readings.specs.Genes.{GenesOf}
+use Rattle.readings.specs.Mapped.{Mapped, Added}
+use Rattle.readings.specs.Pieces.{Pieces, SumOfTrials, WithAny}
+use Rattle.report.specs.Reports.{SmallFive, SmallTotals, reportOf}
 use Rattle.report.specs.declared.Totals.{Totals}
 use Rattle.family.specs.Families.{Contents, networkIn, geneTreeIn, familyIn, reported}
-
--- "components that have any" reticulation: those whose top holds one
-unfoldable pub componentCount : Network → ℕ
-componentCount N = count (N .size) (λ c. not (same (reticulationCount N c) 0))
 
 module _ (X : Contents) where
   -- the numbers of the report's first two lines
@@ -46,8 +47,32 @@ module _ (X : Contents) where
       (place (networkIn X) (geneTreeIn X) (reported X)) (event (networkIn X) (geneTreeIn X) (reported X))
       (transfers (networkIn X) (geneTreeIn X) (reported X)) (losses (networkIn X) (geneTreeIn X) (reported X))
 
+-- every number of the report has its six columns, so that its line says it in full
+pub record SixColumns (X : Contents) : Type 0 where
+  pub totals : SmallTotals (totalsIn X)
+  pub reticulation-lines : (v : ℕ) → Node (networkIn X) v
+      → SmallFive v (parent (networkIn X) (reported X) v) (tally (onSecondary (networkIn X) (reported X) v)) (component (networkIn X) v) (reticulationCount (networkIn X) (component (networkIn X) v))
+  pub gene-lines : (g : ℕ) → Gene (X .genes) g
+      → SmallFive g (place (networkIn X) (geneTreeIn X) (reported X) g) (event (networkIn X) (geneTreeIn X) (reported X) g)
+      (transfers (networkIn X) (geneTreeIn X) (reported X) g) (losses (networkIn X) (geneTreeIn X) (reported X) g)
+
 -- what a report says, beyond its bytes
 pub record Reported (X : Contents) : Type 0 where
+  -- the gene tree is that of the gene lines
+  pub genes : GenesOf (X .nodes) (X .genes) (geneTreeIn X)
+  -- demand 2: the genes' lines are "placement, event, transfers, losses" as 01 words them, of the setting reported
+  pub mapped : Mapped (networkIn X) (reported X) (geneTreeIn X) (place (networkIn X) (geneTreeIn X) (reported X)) (event (networkIn X) (geneTreeIn X) (reported X))
+      (transfers (networkIn X) (geneTreeIn X) (reported X)) (losses (networkIn X) (geneTreeIn X) (reported X))
+  -- the first line's numbers are sums over the genes' lines, and the cost is theirs
+  pub added : Added (geneTreeIn X) (X .costs) (event (networkIn X) (geneTreeIn X) (reported X)) (transfers (networkIn X) (geneTreeIn X) (reported X)) (losses (networkIn X) (geneTreeIn X) (reported X))
+      (totalsIn X .duplications) (totalsIn X .transfers) (totalsIn X .losses) (totalsIn X .cost)
+  -- the reticulations' lines name the pieces left when all cut arcs are taken away, and the trials and the count of components go over these
+  pub pieces : Pieces (networkIn X) (component (networkIn X)) (reticulationCount (networkIn X))
+  pub tried : SumOfTrials (networkIn X) (totalsIn X .trials)
+  pub with-any : WithAny (networkIn X) (totalsIn X .components)
+  pub six-columns : SixColumns X
+  -- histories go over the same network and gene tree
+  pub described : Describes (X .nodes) (X .genes) (geneTreeIn X) (X .costs) (familyIn X)
   -- demand 3: "every other setting of the whole network .. costs at least as much as the reported one, and at equal cost comes after it"
   pub optimal : Optimal (networkIn X) (geneTreeIn X) (X .costs) (reported X)
   -- the search: after t steps the machine's state is what 01 says, for every t up to the trials reported

@@ -16,9 +16,9 @@ use Rattle.finite.proofs.Sum.{sum-le}
 use Rattle.finite.proofs.Tables.{within-in, within-zero, within-out}
 use Rattle.tables.specs.Children.{isNext}
 use Rattle.tables.proofs.Nexts.{next-is, next-none, next-low}
-use Rattle.topology.specs.Lines.{NodeLines, GeneLines}
+use Rattle.topology.specs.Lines.{Gene, NodeLines, GeneLines}
 use Rattle.reconciliation.specs.GeneTrees.{GeneTree, Rooted}
-use Rattle.gene_tree.specs.Refusals.{Gene, childCount, refusal12, refusal13}
+use Rattle.gene_tree.specs.Refusals.{childCount, refusal12, refusal13}
 use Rattle.gene_tree.specs.Genes.{leftOf, rightOf, leafOf, geneTreeOf, SeatAt}
 use Rattle.gene_tree.proofs.Refusals.{gene-first, gene-some, gene-below, gene-two, bearer-some, bearer-in, seat-leaf}
 

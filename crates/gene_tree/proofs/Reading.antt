@@ -17,7 +17,8 @@ use Rattle.tables.specs.Columns.{entry, spaced}
 use Rattle.tables.specs.Children.{isNext, next}
 use Rattle.layout.specs.Lines.{nodeSpecies, geneParent, geneSpecies, nodesIn, genesIn}
 use Rattle.layout.proofs.Numbered.{species-in, gene-parent-in, gene-species-in}
-use Rattle.gene_tree.specs.Refusals.{Gene, badParent, badCount, badGeneAt, refusal12, bearer, badSpecies, badSpeciesAt, refusal13}
+use Rattle.topology.specs.Lines.{Gene}
+use Rattle.gene_tree.specs.Refusals.{badParent, badCount, badGeneAt, refusal12, bearer, badSpecies, badSpeciesAt, refusal13}
 use Rattle.gene_tree.specs.Genes.{leafOf}
 use Rattle.gene_tree.specs.Work.{childCountColumn, bearerColumn, ChildCounts, Bearers}
 use Rattle.gene_tree.proofs.Refusals.{bearer-in}

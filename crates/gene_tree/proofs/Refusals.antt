@@ -13,8 +13,8 @@ use Rattle.finite.proofs.Tests.{is-same, same-is, not-same, same-not, under-is,
 use Rattle.finite.proofs.Every.{some-at, not-some}
 use Rattle.finite.proofs.Refusals.{verdict-here, verdict-later}
 use Rattle.tables.proofs.Nexts.{next-is, next-none}
-use Rattle.topology.specs.Lines.{NodeLines, GeneLines}
-use Rattle.gene_tree.specs.Refusals.{Gene, childCount, badParent, badCount, badGeneAt, refusal12, Refusal12, bearer, badSpecies, badSpeciesAt, refusal13, Refusal13, speciesRefusals, geneRefusals}
+use Rattle.topology.specs.Lines.{Gene, NodeLines, GeneLines}
+use Rattle.gene_tree.specs.Refusals.{childCount, badParent, badCount, badGeneAt, refusal12, Refusal12, bearer, badSpecies, badSpeciesAt, refusal13, Refusal13, speciesRefusals, geneRefusals}
 use Rattle.gene_tree.specs.Refusals.Refusal12.{first-has-parent, no-parent, parent-not-below, children-amiss}
 use Rattle.gene_tree.specs.Refusals.Refusal13.{leaf-without-species, leaf-unknown, inner-with-species}
 

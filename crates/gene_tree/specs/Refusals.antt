@@ -10,12 +10,7 @@ use Rattle.finite.specs.Tests.{same, under}
 use Rattle.finite.specs.Range.{some, children}
 use Rattle.finite.specs.Refusals.{Refusal}
 use Rattle.tables.specs.Children.{next}
-use Rattle.topology.specs.Lines.{NodeLines, GeneLines}
-
--- g is the number of a gene
-pub record Gene (K : GeneLines) (g : ℕ) : Type 0 where
-  pub low : 1 ≤ g
-  pub high : g ≤ K .count
+use Rattle.topology.specs.Lines.{Gene, NodeLines, GeneLines}
 
 -- how many children gene g has
 unfoldable pub childCount : GeneLines → ℕ → ℕ

@@ -4,8 +4,8 @@ use mathlib.Core.Path.{_≡_}
 use mathlib.Core.List.{List}
 use Prim.Native.Nat.{ℕ, _≤_}
 use Rattle.tables.specs.Columns.{entry}
-use Rattle.topology.specs.Lines.{NodeLines, GeneLines}
-use Rattle.gene_tree.specs.Refusals.{Gene, childCount, bearer}
+use Rattle.topology.specs.Lines.{Gene, NodeLines, GeneLines}
+use Rattle.gene_tree.specs.Refusals.{childCount, bearer}
 
 abbrev pub childCountColumn : ℕ
 childCountColumn = 0

@@ -100,7 +100,7 @@ module _ (L : NodeLines) (K : GeneLines) (G : GeneTree) (C : Costs) where
     unfolding familyOf
     whole-limits = ok .limits
 
-    inner-is : (g a b : ℕ) → Whole .gene g ≡ pair a b → (G .left g ≢ 0) × (a ≡ G .left g) × (b ≡ G .right g)
+    pub inner-is : (g a b : ℕ) → Whole .gene g ≡ pair a b → (G .left g ≢ 0) × (a ≡ G .left g) × (b ≡ G .right g)
     inner-is g a b e = byEq (G .left g) 0
         (λ q. absurd (let r = sym (gene-tip g q) ∙ e in let z : _≡_ {A = ℕ} 0 1 = cc in omega arith))
         (λ q. let r : pair (G .left g) (G .right g) ≡ pair a b = sym (gene-pair g q) ∙ e in (q, cc, cc))

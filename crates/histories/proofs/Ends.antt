@@ -1,7 +1,7 @@
 -- The family says exactly what leaves each node of an accepted network: at most two principal arcs, a secondary one only beside a single principal one,
 -- so no arc out is left out.
 -- Assumes nothing.
-use mathlib.Core.Path.{_≡_}
+use mathlib.Core.Path.{_≡_, sym, _∙_, ap}
 use mathlib.Core.Logic.{_≢_, inl, inr, _↔_, ⊎-elim}
 use Prim.Native.Nat.{ℕ, _≤_}
 use native.Mathlib.Omega.{arith}
@@ -11,14 +11,14 @@ use Rattle.finite.proofs.Cases.{byEq}
 use Rattle.finite.proofs.Tests.{is-same, same-is}
 use Rattle.finite.proofs.Count.{count-some, count-two, count-one, count-find}
 use Rattle.tables.proofs.Nexts.{next-is, next-none}
-use Rattle.topology.specs.Networks.{Node}
+use Rattle.topology.specs.Networks.{Node, NoArcs}
 use Rattle.topology.specs.Lines.{NodeLines, GeneLines, network}
 use Rattle.reconciliation.specs.GeneTrees.{GeneTree}
 use Rattle.reconciliation.specs.Costs.{Costs}
-use Rattle.histories.specs.Histories.{Family}
+use Rattle.histories.specs.Histories.{Family, leaf, one, two, mixed}
 use Rattle.histories.specs.Families.{firstChild, secondChild, otherChild, outBy, PrincipalEnd, SecondaryEnd}
 use Rattle.histories.specs.Accepted.{Accepted}
-use Rattle.histories.proofs.Outs.{out-two, out-mixed, out-one, byOut}
+use Rattle.histories.proofs.Outs.{out-leaf, out-two, out-mixed, out-one, byOut}
 use Rattle.histories.proofs.Accepted.{Whole, out-at, node-of}
 use Rattle.histories.proofs.Small.{has-first, only-first, first-or-second}
 
@@ -86,3 +86,49 @@ module _ (L : NodeLines) (K : GeneLines) (G : GeneTree) (C : Costs) (ok : Accept
           (λ a b q e. absurd (rw q at e))
           (λ a b c q e. let r : x ≡ x₃ = rw q at e in rw r (next-is (L .size) (L .secondary) 0 v c .2))
           (λ a q e. absurd (rw q at e))
+
+  -- ends of arcs are nodes
+  pub principal-inside : (x : ℕ) → PrincipalEnd (F .out v) x → (1 ≤ x) × (x ≤ L .size)
+  unfolding PrincipalEnd firstChild secondChild
+  principal-inside x e = byOut x₁ x₂ x₃ (L .species v)
+      (λ q. absurd (rw (out-is ∙ q) at e))
+      (λ a b q. ⊎-elim (λ r. first r a) (λ r. second r b) (rw (out-is ∙ q) at e))
+      (λ a b c q. first (rw (out-is ∙ q) at e) a)
+      (λ a q. first (rw (out-is ∙ q) at e) a)
+    where
+      first : x ≡ x₁ → x₁ ≢ 0 → (1 ≤ x) × (x ≤ L .size)
+      first r a = let n = next-is (L .size) (L .principal) 0 v a in (omega arith, omega (arith, n .0))
+
+      second : x ≡ x₂ → x₂ ≢ 0 → (1 ≤ x) × (x ≤ L .size)
+      second r b = let n = next-is (L .size) (L .principal) x₁ v b in (omega arith, omega (arith, n .0))
+
+  pub secondary-inside : (x : ℕ) → SecondaryEnd (F .out v) x → (1 ≤ x) × (x ≤ L .size)
+  unfolding SecondaryEnd otherChild
+  secondary-inside x e = byOut x₁ x₂ x₃ (L .species v)
+      (λ q. absurd (rw (out-is ∙ q) at e))
+      (λ a b q. absurd (rw (out-is ∙ q) at e))
+      (λ a b c q. let r : x ≡ x₃ = rw (out-is ∙ q) at e in let n = next-is (L .size) (L .secondary) 0 v c in (omega arith, omega (arith, n .0)))
+      (λ a q. absurd (rw (out-is ∙ q) at e))
+
+  -- a leaf is a node that no arc leaves, of its line's species
+  pub leaf-arcs : (s : ℕ) → F .out v ≡ leaf s → NoArcs (network L) v × (L .species v ≡ s)
+  unfolding PrincipalEnd SecondaryEnd network
+  leaf-arcs s e = (
+    record {
+      principal = λ x k q. rw e at (principal-ends x (k .low) (k .high) .0 q);
+      secondary = λ x k q. rw e at (secondary-ends x (k .low) (k .high) .0 q);
+    },
+    byOut x₁ x₂ x₃ (L .species v)
+        (λ q. let r : leaf (L .species v) ≡ leaf s = sym (out-is ∙ q) ∙ e in cc)
+        (λ a b q. absurd (let r : two x₁ x₂ ≡ leaf s = sym (out-is ∙ q) ∙ e in let z : _≡_ {A = ℕ} 0 1 = cc in omega arith))
+        (λ a b c q. absurd (let r : mixed x₁ x₃ ≡ leaf s = sym (out-is ∙ q) ∙ e in let z : _≡_ {A = ℕ} 0 1 = cc in omega arith))
+        (λ a q. absurd (let r : one x₁ ≡ leaf s = sym (out-is ∙ q) ∙ e in let z : _≡_ {A = ℕ} 0 1 = cc in omega arith)),
+  )
+
+  pub arcs-leaf : (s : ℕ) → NoArcs (network L) v → L .species v ≡ s → F .out v ≡ leaf s
+  unfolding firstChild network
+  arcs-leaf s n q = out-is ∙ out-leaf x₁ x₂ x₃ (L .species v) none ∙ ap leaf q
+    where
+      none : x₁ ≡ 0
+      none = byEq x₁ 0 (λ e. e) (λ d. let c = next-is (L .size) (L .principal) 0 v d in
+          absurd (n .principal x₁ (record { low = omega arith; high = c .0 }) (c .2)))

@@ -10,3 +10,4 @@ pub mod Accepted
 pub mod Small
 pub mod Promise
 pub mod Ends
+pub mod Describes

@@ -2,12 +2,13 @@
 -- gene's children by the gene tree and its species by the gene lines.
 -- Assumes nothing.
 use mathlib.Core.Path.{_≡_}
-use mathlib.Core.Logic.{_⊎_}
+use mathlib.Core.Logic.{_≢_, _⊎_, _↔_}
 use mathlib.Core.Bool.{cond, _&&_}
 use Prim.Native.Nat.{ℕ, suc}
 use Rattle.finite.specs.Tests.{same, under}
 unfoldable pub use Rattle.tables.specs.Children.{isNext, next}
-use Rattle.topology.specs.Lines.{NodeLines, GeneLines}
+use Rattle.topology.specs.Networks.{Node, NoArcs}
+use Rattle.topology.specs.Lines.{NodeLines, GeneLines, network}
 use Rattle.reconciliation.specs.GeneTrees.{GeneTree}
 use Rattle.reconciliation.specs.Costs.{Costs}
 use Rattle.histories.specs.Histories.{Out, leaf, one, two, mixed, Gene, tip, pair, Family}
@@ -59,6 +60,18 @@ SecondaryEnd (leaf s) x = ⊥
 SecondaryEnd (one a) x = ⊥
 SecondaryEnd (two a b) x = ⊥
 SecondaryEnd (mixed a b) x = x ≡ b
+
+-- a family's view of the network and of the gene tree that the mapping knows: the arcs out of a node lead to the nodes that have it as principal or as
+-- secondary parent, a leaf is a node that no arc leaves, with its line's species, and a gene has its children, or as a leaf gene its line's species
+pub record Describes (L : NodeLines) (K : GeneLines) (G : GeneTree) (C : Costs) (F : Family) : Type 0 where
+  pub nodes : F .nodes ≡ network L .size
+  pub genes : F .genes ≡ G .count
+  pub costs : F .costs ≡ C
+  pub principal : (v x : ℕ) → Node (network L) v → PrincipalEnd (F .out v) x ↔ (Node (network L) x × (network L .principal x ≡ v))
+  pub secondary : (v x : ℕ) → Node (network L) v → SecondaryEnd (F .out v) x ↔ (Node (network L) x × (network L .secondary x ≡ v))
+  pub leaves : (v s : ℕ) → Node (network L) v → (F .out v ≡ leaf s) ↔ (NoArcs (network L) v × (L .species v ≡ s))
+  pub pairs : (g a b : ℕ) → (F .gene g ≡ pair a b) ↔ ((G .left g ≢ 0) × (a ≡ G .left g) × (b ≡ G .right g))
+  pub tips : (g s : ℕ) → (F .gene g ≡ tip s) ↔ ((G .left g ≡ 0) × (s ≡ K .species g))
 
 -- whoever unfolds this unfolds all of this file
 unfoldable pub open-Families : Unit {0}

@@ -31,7 +31,8 @@ use Rattle.histories.specs.Families.{familyOf}
 use Rattle.report.specs.Reports.{reportOf}
 use Rattle.report.specs.declared.Totals.{Totals}
 use Rattle.family.specs.Families.{Contents, networkIn, geneTreeIn, familyIn, reported}
-use Rattle.family.specs.Reports.{componentCount, totalsIn, reportIn}
+use Rattle.family.specs.Reports.{totalsIn, reportIn}
+use Rattle.topology.specs.Components.{componentCount}
 use Rattle.score.specs.Contents.{nodeLines, geneLines, contentsOf}
 use Rattle.score.specs.Refusals.{bufferRefusals, textRefusals, curatorRefusals, refusals, refusal}
 

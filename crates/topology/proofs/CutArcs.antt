@@ -12,9 +12,9 @@ use Rattle.finite.proofs.Tests.{is-same, not-same, is-beq}
 use Rattle.finite.proofs.Every.{is-every}
 use Rattle.topology.specs.Networks.{Network, Node, Sound, Reticulation}
 use Rattle.topology.specs.Switchings.{allPrincipal, above}
-use Rattle.topology.specs.Components.{Kind, principalArc, secondaryArc, kinds, tail, Joined, stay, arc, back, via, Every, But, CutArc, Linked, Top, isTop, component}
+use Rattle.topology.specs.Components.{Kind, principalArc, secondaryArc, kinds, tail, Joined, stay, arc, back, via, Every, But, CutArc, Linked, Top, TopOf, isTop, component, memberOf}
 use Rattle.topology.proofs.Above.{network-ind, node-principal, node-secondary, principal-node, reticulation-node, fall-principal, tree-not, above-self, above-low}
-use Rattle.topology.proofs.Components.{root-above, top-root, top-reticulation, reticulation-not-top, component-top, component-up, component-secondary, component-node, top-component}
+use Rattle.topology.proofs.Components.{root-above, top-root, top-reticulation, reticulation-not-top, component-top, component-up, component-secondary, component-node, top-component, member-is, is-member}
 
 kind-not : principalArc ≢ secondaryArc
 kind-not e = let z : _≡_ {A = ℕ} 0 1 = cc in omega arith
@@ -147,12 +147,18 @@ module _ (N : Network) (ok : Sound N) where
       keep principalArc v z c = byBool (isTop N v) (λ t. absurd (c (top-is-cut v z t))) (λ t. sym (component-up N ok v t))
       keep secondaryArc v z c = component-secondary N ok v z
 
-  -- each component has exactly one top node
-  pub one-top : (v : ℕ) → Node N v → (t : ℕ) × Node N t × Top N t × Linked N t v × ((u : ℕ) → Node N u → Top N u → Linked N u v → u ≡ t)
-  one-top v k = (
-    component N v,
-    component-node N ok v k,
-    top-iff (component N v) .1 (top-component N ok v),
-    to-component k,
-    λ u ku t j. sym (component-top N ok u (top-iff u .0 t)) ∙ linked-iff u v ku k .0 j,
+  -- each component has exactly one top node, and goes by it
+  pub one-top : (v : ℕ) → Node N v → TopOf N v (component N v)
+  one-top v k = record {
+    is-node = component-node N ok v k;
+    is-top = top-iff (component N v) .1 (top-component N ok v);
+    linked = to-component k;
+    alone = λ u ku t j. sym (component-top N ok u (top-iff u .0 t)) ∙ linked-iff u v ku k .0 j;
+  }
+
+  -- the reticulations that a node is linked with are the reticulations of its component
+  pub member-iff : (v r : ℕ) → Node N v → (memberOf N (component N v) r ≡ true) ↔ (Reticulation N r × Linked N v r)
+  member-iff v r k = (
+    (λ t. let m = member-is N (component N v) r t in (m .0, linked-iff v r k (reticulation-node N ok r (m .0)) .1 (sym (m .1)))),
+    λ m. is-member N (component N v) r (m .0) (sym (linked-iff v r k (reticulation-node N ok r (m .0)) .0 (m .1))),
   )

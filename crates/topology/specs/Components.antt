@@ -3,7 +3,7 @@
 -- Assumes nothing.
 use mathlib.Core.Path.{_≡_}
 use mathlib.Core.Logic.{_≢_}
-use mathlib.Core.Bool.{Bool, _||_, _&&_, Bool·beq}
+use mathlib.Core.Bool.{Bool, _||_, _&&_, not, Bool·beq}
 use Prim.Native.Nat.{ℕ, _/_, _%_, _^_}
 use Rattle.finite.specs.Tests.{same, under}
 use Rattle.finite.specs.Range.{every, count}
@@ -51,6 +51,13 @@ Linked N = Joined N (λ k v. ¬ (CutArc N k v))
 abbrev pub Top : Network → ℕ → Type 0
 Top N v = (k : Kind) → tail N k v ≢ 0 → CutArc N k v
 
+-- t is the top of v's component: no other top is linked with v
+pub record TopOf (N : Network) (v t : ℕ) : Type 0 where
+  pub is-node : Node N t
+  pub is-top : Top N t
+  pub linked : Linked N t v
+  pub alone : (u : ℕ) → Node N u → Top N u → Linked N u v → u ≡ t
+
 -- the form that computes: w is a top when it has no parent, or when no secondary arc leads into or out of what is below w in the principal tree
 unfoldable pub isTop : Network → ℕ → Bool
 isTop N w = same (N .principal w) 0
@@ -67,6 +74,10 @@ memberOf N c r = isReticulation N r && same (component N r) c
 -- how many reticulations a component has
 unfoldable pub reticulationCount : Network → ℕ → ℕ
 reticulationCount N c = count (N .size) (memberOf N c)
+
+-- "components that have any" (01, "The report"): a component goes by its top
+unfoldable pub componentCount : Network → ℕ
+componentCount N = count (N .size) (λ c. not (same (reticulationCount N c) 0))
 
 -- how many reticulations of its component have a lower number than r, and how many of component c a higher one
 unfoldable pub indexOf : Network → ℕ → ℕ

@@ -1,7 +1,7 @@
 -- The lines of a sheet as functions of their numbers (01, "The sheet"), and the species network that the network lines describe.
 -- Assumes nothing.
 use mathlib.Core.Bool.{cond, not}
-use Prim.Native.Nat.{ℕ, _+_, _*_}
+use Prim.Native.Nat.{ℕ, _+_, _*_, _≤_}
 use Rattle.finite.specs.Tests.{same, tally}
 use Rattle.topology.specs.Networks.{Network}
 
@@ -19,6 +19,11 @@ pub record GeneLines : Type 0 where
   pub count : ℕ
   pub parent : ℕ → ℕ
   pub species : ℕ → ℕ
+
+-- g is a gene
+pub record Gene (K : GeneLines) (g : ℕ) : Type 0 where
+  pub low : 1 ≤ g
+  pub high : g ≤ K .count
 
 -- one more than twice the stamp, and another for a reticulation: a secondary arc keeps the stamp and leads into a reticulation
 unfoldable pub rankOf : (secondary stamp : ℕ) → ℕ

@@ -19,6 +19,11 @@ pub record Node (N : Network) (v : ℕ) : Type 0 where
   pub low : 1 ≤ v
   pub high : v ≤ N .size
 
+-- no arc leaves v
+pub record NoArcs (N : Network) (v : ℕ) : Type 0 where
+  pub principal : (x : ℕ) → Node N x → N .principal x ≢ v
+  pub secondary : (x : ℕ) → Node N x → N .secondary x ≢ v
+
 -- a reticulation is a node with a secondary parent
 abbrev pub Reticulation : Network → ℕ → Type 0
 Reticulation N r = N .secondary r ≢ 0

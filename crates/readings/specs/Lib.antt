@@ -1,0 +1,4 @@
+pub mod Many
+pub mod Genes
+pub mod Mapped
+pub mod Pieces
