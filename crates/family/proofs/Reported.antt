@@ -2,10 +2,10 @@
 -- speak of it.
 -- Assumes nothing.
 use Prim.Native.Nat.{ℕ, _≤_}
-use mathlib.Core.Path.{sym}
+use mathlib.Core.Path.{_≡_, sym}
 use mathlib.Core.Bool.{not}
 use mathlib.Core.List.{List, _++_}
-use lib.ListN.{getD}
+use lib.ListN.{length, getD}
 use native.Mathlib.Omega.{arith}
 use Rattle.finite.specs.Tests.{same}
 use Rattle.finite.proofs.Tests.{tally-le}
@@ -29,13 +29,14 @@ use Rattle.histories.proofs.Promise.{overall-least, each-word, overall-small}
 use Rattle.histories.proofs.Describes.{describes}
 use Rattle.readings.proofs.Mapped.{mapped, added}
 use Rattle.readings.proofs.Pieces.{pieces, trials-summed, with-any}
-use Rattle.report.specs.Reports.{SmallTotals}
+use Rattle.report.specs.Reports.{SmallTotals, reportLength}
+use Rattle.report.proofs.Writing.{length-report}
 use Rattle.acceptance.specs.Admitted.{Admitted}
 use Rattle.acceptance.proofs.Mapped.{sound, rooted, seated, optimal, component-few, cost-small, duplications-small, transfers-small, losses-small, trials-small, parent-small, place-small, event-few, gene-transfers-small, gene-losses-small}
 use Rattle.acceptance.proofs.Genes.{genes-of}
 use Rattle.acceptance.proofs.Whole.{whole-accepted}
 use Rattle.family.specs.Families.{Contents, networkIn, geneTreeIn, familyIn, reported}
-use Rattle.family.specs.Reports.{totalsIn, SixColumns, Reported}
+use Rattle.family.specs.Reports.{totalsIn, reportIn, SixColumns, Reported}
 
 module _ (X : Contents) (admitted : Admitted (X .nodes) (X .genes) (X .costs)) where
   each-least : (g v : ℕ) → 1 ≤ g → g ≤ X .genes .count → 1 ≤ v → v ≤ X .nodes .size → (rest : List ℕ) → Least (familyIn X) g v (costOf (getD (words (familyIn X) ++ rest) (cell (X .nodes .size) g v) 0))
@@ -116,3 +117,12 @@ module _ (X : Contents) (admitted : Admitted (X .nodes) (X .genes) (X .costs)) w
     each = each-least;
     whole = overall-least (X .nodes) (X .genes) (geneTreeIn X) (X .costs) (whole-accepted (X .nodes) (X .genes) (X .costs) admitted);
   }
+
+  -- a report has two lines and one for each gene at least
+  bytes-are : length (reportIn X) ≡ reportLength (L .size) (K .count) (isReticulation (networkIn X))
+  unfolding reportIn
+  bytes-are = length-report _ _ _ _ _ _ _ _ _ _ _ _
+
+  pub report-least : 93 ≤ length (reportIn X)
+  unfolding reportLength
+  report-least = omega (arith, admitted .limits .some-gene, bytes-are)

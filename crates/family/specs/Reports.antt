@@ -1,7 +1,6 @@
 -- The report of a family that no refusal applies to (01, "The report"), and what it says beyond its bytes.
 -- Assumes nothing.
 use mathlib.Core.Path.{_≡_}
-use mathlib.Core.Bool.{not}
 use mathlib.Core.List.{List, _++_}
 use Prim.Native.Nat.{ℕ, _+_, _≤_, _<_}
 use lib.ListN.{getD}

@@ -1,13 +1,13 @@
--- What an answer tells: a refusal the first that applies, a report that none does. So a report fits the result, and a refusal has a small number.
+-- The answer of a verdict, and what follows from the promise for who has an answer in hand: a report fits the result, and a refusal has a small number.
 -- Assumes nothing.
-use Prim.Native.Nat.{ℕ, _≤_}
-use mathlib.Core.Path.{_≡_, sym, ap, _∙_}
+use Prim.Native.Nat.{ℕ, _≤_, _<_}
+use mathlib.Core.Path.{_≡_, ap, subst}
 use mathlib.Core.Logic.{_≢_}
 use mathlib.Core.List.{List, [], _∷_}
 use lib.ListN.{length, drop, length-append}
 use native.Mathlib.Omega.{arith}
 use Rattle.finite.specs.Refusals.{Refusal, verdict}
-use Rattle.finite.proofs.Cases.{byBool, byEq}
+use Rattle.finite.proofs.Cases.{byBool}
 use Rattle.finite.proofs.Tests.{is-same, not-same}
 use Rattle.columns.specs.Lines.{written}
 use Rattle.shapes.specs.Refusals.{shapeRefusals, afterEight}
@@ -20,29 +20,12 @@ use Rattle.family.specs.Families.{Contents}
 use Rattle.family.specs.Reports.{reportIn}
 use Rattle.score.specs.Contents.{contentsOf}
 use Rattle.score.specs.Refusals.{bufferRefusals, textRefusals, curatorRefusals, refusals, refusal}
-use Rattle.score.specs.Outcome.{answerBy, resultBy, Promise}
+use Rattle.score.specs.Outcome.{numberOf, answerBy, IsReport, Says, Promise}
 
-apart : {A : Type 0} {b k : ℕ} → Report b ≡ Refused k → A
-apart e = let z : _≡_ {A = ℕ} 0 1 = cc in absurd (omega arith)
-
-same-number : {j k : ℕ} → Refused j ≡ Refused k → j ≡ k
-same-number e = cc
-
-same-bytes : {b c : ℕ} → Report b ≡ Report c → b ≡ c
-same-bytes e = cc
-
--- which refusal the answer tells, and that there is none
-pub answer-refused : (k j : ℕ) (X : Contents) → answerBy j X ≡ Refused k → (j ≡ k) × (j ≢ 0)
-unfolding answerBy
-answer-refused k j X q = byEq j 0 (λ e. apart (rw (is-same e) at q)) (λ z. (same-number (rw (not-same z) at q), z))
-
+-- the answer of a verdict
 pub refused-answer : (k j : ℕ) (X : Contents) → k ≢ 0 → j ≡ k → answerBy j X ≡ Refused k
 unfolding answerBy
 refused-answer k j X d e = rw (e, not-same d)
-
-pub answer-report : (j : ℕ) (X : Contents) (b : ℕ) → answerBy j X ≡ Report b → (j ≡ 0) × (b ≡ length (reportIn X))
-unfolding answerBy
-answer-report j X b q = byEq j 0 (λ e. (e, same-bytes (sym (rw (is-same e) at q)))) (λ z. apart (sym (rw (not-same z) at q)))
 
 pub report-answer : (j : ℕ) (X : Contents) → j ≡ 0 → answerBy j X ≡ Report (length (reportIn X))
 unfolding answerBy
@@ -63,16 +46,27 @@ unfolding Low refusals bufferRefusals textRefusals curatorRefusals networkRefusa
 all-low s b w = (omega arith, (omega arith, (omega arith, (omega arith, (omega arith, (omega arith, (omega arith, (omega arith, (omega arith, (omega arith, (omega arith, (omega arith, (omega arith, tt)))))))))))))
 
 -- a refusal's number is one of 13
-pub refused-small : {s d e u t : List ℕ} {r : Answer} {k : ℕ} → Promise s d e u t r → r ≡ Refused k → k ≤ 13
+pub refusal-small : (s : List ℕ) (b w : ℕ) → refusal s b w ≤ 13
 unfolding refusal
-refused-small {s} {d} {e} {u} {t} {r} {k} p q =
-    omega (arith, answer-refused k _ (contentsOf s) (sym (p .outcome .answer) ∙ q) .0, verdict-low 13 (refusals s (length d) (length u)) (all-low s (length d) (length u)))
+refusal-small s b w = verdict-low 13 (refusals s b w) (all-low s b w)
+
+-- what the promise says of an answer in hand
+says-of : {s d e u t : List ℕ} {r a : Answer} → Promise s d e u t r → r ≡ a → Says s d e u t a
+says-of {s} {d} {e} {u} {t} p q = subst (λ (x : Answer). Says s d e u t x) q (p .says)
+
+pub refused-small : {s d e u t : List ℕ} {r : Answer} {k : ℕ} → Promise s d e u t r → r ≡ Refused k → k ≤ 13
+refused-small p q = says-of p q .high
 
 -- a report fits the result
 pub report-fits : {s d e u t : List ℕ} {r : Answer} {b : ℕ} → Promise s d e u t r → r ≡ Report b → b ≤ length e
-unfolding resultBy written
+unfolding written
 report-fits {s} {d} {e} {u} {t} {r} {b} p q =
-    let n = answer-report _ (contentsOf s) b (sym (p .outcome .answer) ∙ q) in
-    let z = p .outcome .result in
-    let w = (rw (is-same (n .0)) at z) in
-    omega (arith, n .1, ap length w, length-append (reportIn (contentsOf s)) (drop (length (reportIn (contentsOf s))) d))
+    let i : IsReport s d e u t b = says-of p q in
+    omega (arith, i .bytes, ap length (i .result-written), length-append (reportIn (contentsOf s)) (drop (length (reportIn (contentsOf s))) d))
+
+-- the numbers of refusals and of reports are apart
+pub number-refused : {s d e u t : List ℕ} {r : Answer} {k : ℕ} → Promise s d e u t r → r ≡ Refused k → numberOf r < 93
+number-refused {s} {d} {e} {u} {t} {r} {k} p q = rw q (omega (arith, refused-small p q))
+
+pub number-report : {s d e u t : List ℕ} {r : Answer} {b : ℕ} → Promise s d e u t r → r ≡ Report b → 93 ≤ numberOf r
+number-report p q = rw q (says-of p q .three-lines)

@@ -1,13 +1,15 @@
--- The promise of the call follows from its outcome: the answer says which refusal was the first, the refusals' conditions say when that is, and a
+-- The promise of the call follows from its outcome: the verdict says which refusal is the first, the refusals' conditions say when that is, and a
 -- sheet that none applies to is one of which the theorems on the optimum and on histories speak.
 -- Assumes nothing.
 use Prim.Native.Nat.{ℕ}
-use mathlib.Core.Path.{_≡_, sym, _∙_}
+use mathlib.Core.Path.{_≡_, refl, sym, _∙_, subst}
 use mathlib.Core.Logic.{_≢_}
 use mathlib.Core.List.{List}
 use lib.ListN.{length}
 use Rattle.finite.specs.Refusals.{First, NoneApplies}
-use Rattle.finite.proofs.Tests.{not-false}
+use native.Mathlib.Omega.{arith}
+use Rattle.finite.proofs.Cases.{byEq}
+use Rattle.finite.proofs.Tests.{is-same, not-same, not-false}
 use Rattle.network.proofs.Acceptance.{none-outside}
 use Rattle.finite.proofs.Refusals.{told-first, told-none, first-told, first-some, none-told}
 use Rattle.topology.specs.Lines.{network}
@@ -18,12 +20,12 @@ use Rattle.network.specs.Accepted.{NoOthers}
 use Rattle.acceptance.specs.Admitted.{Admitted}
 use Rattle.score.specs.declared.Answer.{Answer}
 use Rattle.family.specs.Families.{Contents}
-use Rattle.family.specs.Reports.{Reported}
-use Rattle.family.proofs.Reported.{is-reported}
+use Rattle.family.specs.Reports.{reportIn, Reported}
+use Rattle.family.proofs.Reported.{is-reported, report-least}
 use Rattle.score.specs.Contents.{nodeLines, geneLines, contentsOf}
 use Rattle.score.specs.Refusals.{refusals, refusal}
-use Rattle.score.specs.Outcome.{Outcome, Promise}
-use Rattle.score.proofs.Answers.{answer-refused, refused-answer, answer-report, report-answer}
+use Rattle.score.specs.Outcome.{resultBy, scratchBy, Outcome, IsRefused, IsReport, Says, Promise}
+use Rattle.score.proofs.Answers.{refused-answer, report-answer, refusal-small}
 use Rattle.score.proofs.Refusals.{all-tells, text-passes, curators-pass, none-passes}
 
 -- a number that is no node has no parents
@@ -73,16 +75,45 @@ module _ (s : List ℕ) (b w : ℕ) where
   unfolding refusal
   of-none n = none-told (refusals s b w) (all-tells s b w (no-others s)) n
 
+-- what the answer says: a refusal's case where the verdict is a number, a report's where it is 0
+module _ (s d e u t : List ℕ) where
+  abbrev verdict : ℕ
+  verdict = refusal s (length d) (length u)
+
+  refused-says : (X : Contents) → e ≡ resultBy verdict X d → t ≡ scratchBy verdict X u → verdict ≢ 0 → IsRefused s d e u t verdict
+  unfolding resultBy scratchBy
+  refused-says X er es z = record {
+    low = omega arith;
+    high = refusal-small s (length d) (length u);
+    first = first-of s (length d) (length u) verdict refl z;
+    result-kept = rw (not-same z) at er;
+    scratch-kept = rw (not-same z) at es;
+  }
+
+  report-says : e ≡ resultBy verdict (contentsOf s) d → t ≡ scratchBy verdict (contentsOf s) u → verdict ≡ 0 → IsReport s d e u t (length (reportIn (contentsOf s)))
+  unfolding resultBy scratchBy
+  report-says er es z = record {
+    none = none-of s (length d) (length u) z;
+    bytes = refl;
+    three-lines = report-least (contentsOf s) (admitted s (length d) (length u) z);
+    result-written = rw (is-same z) at er;
+    scratch-written = rw (is-same z) at es;
+    reported = reported-is s (length d) (length u) z;
+  }
+
+  says : (r : Answer) → Outcome verdict (contentsOf s) d e u t r → Says s d e u t r
+  says r o = byEq verdict 0
+      (λ z. subst (λ (a : Answer). Says s d e u t a) (sym (o .answer ∙ report-answer verdict (contentsOf s) z)) (report-says (o .result) (o .scratch) z))
+      (λ z. subst (λ (a : Answer). Says s d e u t a) (sym (o .answer ∙ refused-answer verdict verdict (contentsOf s) z refl)) (refused-says (contentsOf s) (o .result) (o .scratch) z))
+
 pub promise : (s d e u t : List ℕ) (r : Answer) → Outcome (refusal s (length d) (length u)) (contentsOf s) d e u t r → Promise s d e u t r
 promise s d e u t r o =
     let b : ℕ = length d in
     let w : ℕ = length u in
     let T = all-tells s b w (no-others s) in
     record {
-      outcome = o;
-      refused = λ k a. let n = answer-refused k (refusal s b w) (contentsOf s) (sym (o .answer) ∙ a) in first-of s b w k (n .0) (λ z. n .1 (n .0 ∙ z));
+      says = says s d e u t r o;
       refuses = λ k f. o .answer ∙ refused-answer k (refusal s b w) (contentsOf s) (first-some (refusals s b w) T k f) (of-first s b w k f);
-      scored = λ x a. none-of s b w (answer-report (refusal s b w) (contentsOf s) x (sym (o .answer) ∙ a) .0);
       scores = λ n. o .answer ∙ report-answer (refusal s b w) (contentsOf s) (of-none s b w n);
-      reported = λ x a. reported-is s b w (answer-report (refusal s b w) (contentsOf s) x (sym (o .answer) ∙ a) .0);
+      outcome = o;
     }

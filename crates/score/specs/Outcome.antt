@@ -4,7 +4,7 @@
 use mathlib.Core.Path.{_≡_}
 use mathlib.Core.Bool.{cond}
 use mathlib.Core.List.{List, _++_}
-use Prim.Native.Nat.{ℕ, _*_}
+use Prim.Native.Nat.{ℕ, _*_, _≤_}
 use lib.ListN.{length, drop}
 use Rattle.finite.specs.Tests.{same}
 use Rattle.finite.specs.Refusals.{First, NoneApplies}
@@ -39,14 +39,36 @@ pub record Outcome (k : ℕ) (X : Contents) (d e u t : List ℕ) (r : Answer) : 
   pub result : e ≡ resultBy k X d
   pub scratch : t ≡ scratchBy k X u
 
+-- what each case of the answer says of the sheet, of the result and the scratch before and after the call, and of its number
+module _ (sheet result resultAfter scratch scratchAfter : List ℕ) where
+  -- "A refusal returns its number; the first that applies is given; result and scratch are untouched"
+  pub record IsRefused (k : ℕ) : Type 0 where
+    pub low : 1 ≤ k
+    pub high : k ≤ 13
+    pub first : First (refusals sheet (length result) (length scratch)) k
+    pub result-kept : resultAfter ≡ result
+    pub scratch-kept : scratchAfter ≡ scratch
+
+  -- "A scored sheet returns how many bytes it wrote to the result": three lines at least, so never a refusal's number
+  pub record IsReport (b : ℕ) : Type 0 where
+    pub none : NoneApplies (refusals sheet (length result) (length scratch))
+    pub bytes : b ≡ length (reportIn (contentsOf sheet))
+    pub three-lines : 93 ≤ b
+    pub result-written : resultAfter ≡ written result (reportIn (contentsOf sheet))
+    pub scratch-written : scratchAfter ≡ words (familyIn (contentsOf sheet)) ++ drop (contentsOf sheet .genes .count * contentsOf sheet .nodes .size) scratch
+    -- demands 2 and 3
+    pub reported : Reported (contentsOf sheet)
+
+  abbrev pub Says : Answer → Type 0
+  Says (Report b) = IsReport b
+  Says (Refused k) = IsRefused k
+
 -- the promise of the call
 pub record Promise (sheet result resultAfter scratch scratchAfter : List ℕ) (answer : Answer) : Type 0 where
-  -- the answer, the result and the scratch follow from the sheet and the lengths of the buffers
-  pub outcome : Outcome (refusal sheet (length result) (length scratch)) (contentsOf sheet) result resultAfter scratch scratchAfter answer
-  -- demand 1: a refusal is given exactly where its condition holds and none before it; a report exactly where none holds
-  pub refused : (k : ℕ) → answer ≡ Refused k → First (refusals sheet (length result) (length scratch)) k
+  -- demand 1: a report or a refusal, each under its condition only
+  pub says : Says sheet result resultAfter scratch scratchAfter answer
+  -- and wherever its condition holds
   pub refuses : (k : ℕ) → First (refusals sheet (length result) (length scratch)) k → answer ≡ Refused k
-  pub scored : (b : ℕ) → answer ≡ Report b → NoneApplies (refusals sheet (length result) (length scratch))
   pub scores : NoneApplies (refusals sheet (length result) (length scratch)) → answer ≡ Report (length (reportIn (contentsOf sheet)))
-  -- demands 2 and 3, of a report
-  pub reported : (b : ℕ) → answer ≡ Report b → Reported (contentsOf sheet)
+  -- the same as equations that compute: the answer, the result and the scratch follow from the sheet and the lengths of the buffers
+  pub outcome : Outcome (refusal sheet (length result) (length scratch)) (contentsOf sheet) result resultAfter scratch scratchAfter answer

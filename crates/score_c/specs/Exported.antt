@@ -2,8 +2,9 @@
 -- Assumes nothing.
 use mathlib.Core.Path.{_≡_}
 use mathlib.Core.List.{List}
-use Prim.Native.Nat.{ℕ}
+use Prim.Native.Nat.{ℕ, _≤_, _<_}
 use Rattle.score.specs.declared.Answer.{Answer}
+use Rattle.score.specs.declared.Answer.the-variants.{Report, Refused}
 use Rattle.score.specs.Outcome.{Promise, numberOf}
 
 -- the buffers before and after the call, and the number returned
@@ -12,5 +13,8 @@ pub record Exported (sheet result resultAfter scratch scratchAfter : List ℕ) (
   pub answer : Answer
   -- demands 1, 2 and 3 of it
   pub promise : Promise sheet result resultAfter scratch scratchAfter answer
-  -- the paper's number for it (01, "Refusals, by who can cause them"): a refusal's own number, a report's bytes
+  -- the paper's number for it (01, first paragraphs): a refusal's own number, a report's bytes
   pub told : number ≡ numberOf answer
+  -- a number below 93, three lines of 31 bytes, is exactly a refusal's
+  pub below : number < 93 → (k : ℕ) × (answer ≡ Refused k)
+  pub above : 93 ≤ number → (b : ℕ) × (answer ≡ Report b)
