@@ -1,8 +1,8 @@
 // The arcs of a network as the whole-network cost takes them, in one table: of each node its first and second child by principal arcs and its child by
 // a secondary arc, 0 for none, and the nodes in an order in which each comes after its parents.
-use columns::FIELDS;
 use layout::lines::Lines;
 use tables::Table;
+use text_lines::FIELDS;
 ghost use mathlib.Core.Path.{_≡_};
 ghost use Prim.Native.Nat.{_≤_};
 ghost use lib.ListN.{length};

@@ -1,5 +1,4 @@
 // The gene tree of a sheet: refusals 12 and 13, and the table of each gene's children, leaf and parent.
-use columns::FIELDS;
 use layout::genes;
 use layout::genes::Genes;
 use layout::lines::Lines;
@@ -7,6 +6,7 @@ use layout::lines::gene_parent;
 use layout::lines::gene_species;
 use layout::lines::node_species;
 use tables::Table;
+use text_lines::FIELDS;
 ghost use mathlib.Core.Path.{_≡_};
 ghost use mathlib.Core.Bool.{_||_};
 ghost use Prim.Native.Nat.{_≤_};

@@ -4,7 +4,7 @@
 use mathlib.Core.List.{List}
 use Prim.Native.Nat.{ℕ, _+_, _*_}
 use Rattle.finite.specs.Tables.{within}
-use Rattle.columns.specs.Lines.{fieldCount}
+use Rattle.text_lines.specs.Lines.{fieldCount}
 use Rattle.tables.specs.Columns.{spaced}
 use Rattle.topology.specs.Lines.{NodeLines, GeneLines}
 

@@ -1,5 +1,5 @@
 // The lines of a sheet as numbers, line after line: line 0 is the header, line v is about node v, line n + g about gene g.
-use columns::FIELDS;
+use text_lines::FIELDS;
 ghost use mathlib.Core.Path.{_≡_};
 ghost use Prim.Native.Nat.{_≤_};
 ghost use Rattle.layout.specs.Lines.{principal, secondary, stamp, nodeSpecies, geneParent, geneSpecies};

@@ -1,9 +1,9 @@
 // Refusals 6 and 7: the parents and the stamps.
-use columns::FIELDS;
 use layout::lines::Lines;
 use layout::lines::principal;
 use layout::lines::secondary;
 use layout::lines::stamp;
+use text_lines::FIELDS;
 ghost use mathlib.Core.Path.{_≡_};
 ghost use mathlib.Core.Bool.{false};
 ghost use Prim.Native.Nat.{_≤_};

@@ -17,7 +17,7 @@ use Rattle.optimum.specs.Optimum.{assembled, trials, Optimal}
 use Rattle.optimum.specs.Machine.{searchAfter, AsScored}
 use Rattle.histories.specs.Histories.{Least, LeastOverall, overall}
 use Rattle.histories.specs.Words.{word, costOf, cell, words}
-use Rattle.columns.specs.Lines.{written}
+use Rattle.columns.specs.Writing.{written}
 use Rattle.report.specs.Reports.{reportOf}
 use Rattle.report.specs.declared.Totals.{Totals}
 use Rattle.score.specs.declared.Answer.{Answer}

@@ -1,9 +1,9 @@
 // What is counted once for the refusals 8, 9 and 10, in one table: the arcs out of each node, and the nodes of each species.
-use columns::FIELDS;
 use layout::lines::Lines;
 use layout::lines::principal;
 use layout::lines::secondary;
 use tables::Table;
+use text_lines::FIELDS;
 ghost use mathlib.Core.Path.{_≡_};
 ghost use Prim.Native.Nat.{_≤_};
 ghost use Rattle.finite.specs.Range.{children};

@@ -11,9 +11,10 @@ use native.Mathlib.Numerals.{add-one}
 use native.Mathlib.Omega.{arith}
 use Rattle.finite.specs.Tables.{at}
 use Rattle.finite.proofs.Cases.{byEq}
-use Rattle.columns.specs.Lines.{fieldCount, lineLength, lineAt, put, written}
-use Rattle.columns.specs.declared.End.{End}
-use Rattle.columns.proofs.Lines.{length-read}
+use Rattle.columns.specs.Writing.{put, written}
+use Rattle.text_lines.specs.Lines.{fieldCount, lineLength, lineAt}
+use Rattle.text_lines.specs.declared.End.{End}
+use Rattle.text_lines.proofs.Lines.{length-read}
 use Rattle.columns.proofs.Writing.{length-put}
 use Rattle.sheet.specs.Sheets.{found, lineNo, isLine, cell, linesPut, allLines, cellsOf}
 

@@ -8,9 +8,10 @@ use lib.ListN.{length, getD, take, drop, replicate}
 use Rattle.finite.specs.Tests.{same, under}
 use Rattle.finite.specs.Range.{every}
 use Rattle.finite.specs.Tables.{at}
-use Rattle.columns.specs.Lines.{fieldCount, lineLength, Reading, lineAt, lineOf, put, Small}
-use Rattle.columns.specs.declared.End.{End}
-use Rattle.columns.specs.declared.End.the-variants.{After, Malformed}
+use Rattle.columns.specs.Writing.{put}
+use Rattle.text_lines.specs.Lines.{fieldCount, lineLength, Reading, lineAt, lineOf, Small}
+use Rattle.text_lines.specs.declared.End.{End}
+use Rattle.text_lines.specs.declared.End.the-variants.{After, Malformed}
 use Rattle.layout.specs.declared.Header.{Header}
 use Rattle.sheet.specs.declared.Headed.{Headed}
 use Rattle.sheet.specs.declared.Headed.the-variants.{Header as accepted, Refused}

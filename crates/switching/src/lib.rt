@@ -1,9 +1,9 @@
 // The tree that a network displays, kept for one switching after another: single reticulations are turned, so that a trial of the search fills no table.
-use columns::FIELDS;
 use layout::choices::Choices;
 use layout::lines;
 use layout::parts;
 use layout::tree;
+use text_lines::FIELDS;
 ghost use mathlib.Core.Path.{_≡_};
 ghost use Prim.Native.Nat.{ℕ, _≤_, _<_, _+_};
 ghost use lib.ListN.{length};
