@@ -5,11 +5,11 @@ ghost use mathlib.Core.Logic.{_↔_};
 ghost use mathlib.Core.List.{[]};
 ghost use Prim.Native.Nat.{_+_, _*_, _≤_, _<_};
 ghost use lib.ListN.{length, drop, replicate};
-ghost use Rattle.columns.specs.Fields.{columnOf, columns, fieldAt};
+ghost use Rattle.columns.specs.Fields.{placeValue, columnOf, columns, fieldAt};
 ghost use Rattle.columns.specs.Scans.{frontCount, Blank, twoSpaces, digit, opening, fitting};
 ghost use Rattle.columns.specs.Writing.{written, put};
 
-// What each column is worth, the last column first. Both reading and writing go by it.
+// What each column is worth, the last column first.
 const PLACES: [u32; 6] = [1, 10, 100, 1000, 10000, 100000];
 
 // The columns in front of the last two. Most numbers are below 100 and have spaces there, which are read and written at once.
@@ -36,17 +36,25 @@ fn wide(b: u8) -> u32
     b as u32
 }
 
-// The byte in the column that is worth PLACES[place].
+// What the column of a place is worth. Both reading and writing go by it.
+fn worth(place: usize) -> u32
+    requires { ⌜ place < 6 ⌝ }
+    ensures { λ r. ⌜ r ≡ placeValue place ⌝ }
+{
+    PLACES[place]
+}
+
+// The byte in the column of a place.
 fn column(n: u32, place: usize) -> u8
     requires { ⌜ place < 6 ⌝ }
     ensures { λ r. ⌜ r ≡ columnOf n place ⌝ }
 {
-    let worth = PLACES[place];
-    let digit = b'0' + (n / worth % 10) as u8;
+    let unit = worth(place);
+    let digit = b'0' + (n / unit % 10) as u8;
     if place == 0 {
         return digit;
     }
-    if n < worth {
+    if n < unit {
         return b' ';
     }
     digit
@@ -100,7 +108,7 @@ fn is_opening(b: u8) -> bool
     true
 }
 
-// Whether a byte may stand in the column that is worth PLACES[place], after columns that are worth n.
+// Whether a byte may stand in the column of a place, after columns that are worth n.
 fn fits(b: u8, n: u32, place: usize) -> bool
     ensures { λ r. ⌜ r ≡ fitting b n place ⌝ }
 {
@@ -126,7 +134,7 @@ fn scan(s: &[u8], at: usize, first: usize) -> Field
         if !fits(b, n, 5 - i) {
             return Field::Malformed;
         }
-        n += wide(b % 16) * PLACES[5 - i];
+        n += wide(b % 16) * worth(5 - i);
         i += 1;
     }
     Field::Number(n, Cursor { at: at + 6 })
@@ -183,7 +191,7 @@ pub fn write_field(out: &mut [u8], n: u32)
     requires { ⌜ (6 ≤ length (now out)) × (n < 1000000) ⌝ }
     ensures { λ _. ⌜ now (out .exit) ≡ written (now (out .entry)) (columns n) ⌝ }
 {
-    if n < PLACES[6 - FRONT] {
+    if n < worth(6 - FRONT) {
         write_spaces(out);
         write_columns(out, n, FRONT);
     } else {
