@@ -1,5 +1,6 @@
 // The arcs of a network as the whole-network cost takes them, in one table: of each node its first and second child by principal arcs and its child by
 // a secondary arc, 0 for none, and the nodes in an order in which each comes after its parents.
+use layout::lines;
 use layout::lines::Lines;
 use tables::Table;
 use text_lines::FIELDS;
@@ -104,9 +105,9 @@ fn list_children(n: usize, lines: &Lines, out: &mut Arcs)
     requires { ⌜ (n ≤ 127) × (now out ≡ blank) ⌝ }
     ensures { λ _. ⌜ Childed (nodesIn n (now (lines .entry))) (now (out .exit)) × Clear orderColumn (now (out .exit)) ⌝ }
 {
-    tables::next_children(n, lines, 1, FIELDS, out, ORDER, FIRST);
-    tables::next_children(n, lines, 1, FIELDS, out, FIRST, SECOND);
-    tables::next_children(n, lines, 2, FIELDS, out, ORDER, OTHER);
+    tables::next_children(n, lines, lines::PRINCIPAL, FIELDS, out, ORDER, FIRST);
+    tables::next_children(n, lines, lines::PRINCIPAL, FIELDS, out, FIRST, SECOND);
+    tables::next_children(n, lines, lines::SECONDARY, FIELDS, out, ORDER, OTHER);
 }
 
 // The arcs of the network that the lines describe, in a table of zeros.

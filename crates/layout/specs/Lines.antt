@@ -8,6 +8,10 @@ use Rattle.text_lines.specs.Lines.{fieldCount}
 use Rattle.tables.specs.Columns.{spaced}
 use Rattle.topology.specs.Lines.{NodeLines, GeneLines}
 
+-- the numbers of 256 lines: room for the header and at most 127 nodes and 127 genes
+abbrev pub cellCount : ℕ
+cellCount = 256 * fieldCount
+
 abbrev pub principal : List ℕ → ℕ → ℕ
 principal l = spaced l 1 fieldCount
 

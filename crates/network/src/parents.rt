@@ -1,4 +1,5 @@
 // Refusals 6 and 7: the parents and the stamps.
+use layout::lines;
 use layout::lines::Lines;
 use layout::lines::principal;
 use layout::lines::secondary;
@@ -57,7 +58,7 @@ pub fn six(n: usize, lines: &Lines) -> bool
     if some_bad_parents(n, lines) {
         return true;
     }
-    tables::count_of(n, lines, 1, FIELDS, 0) != 1
+    tables::count_of(n, lines, lines::PRINCIPAL, FIELDS, 0) != 1
 }
 
 // 7: of one node.

@@ -3,6 +3,7 @@ use super::counts::BEARERS;
 use super::counts::PLAINS;
 use super::counts::PRINCIPALS;
 use super::counts::SECONDARIES;
+use layout::lines;
 use layout::lines::Lines;
 use layout::lines::node_species;
 use layout::lines::principal;
@@ -79,7 +80,7 @@ fn bearers(n: usize, lines: &Lines, counts: &Table, k: usize) -> usize
     if k <= n {
         return index(counts, BEARERS, k);
     }
-    tables::count_of(n, lines, 4, FIELDS, k)
+    tables::count_of(n, lines, lines::NODE_SPECIES, FIELDS, k)
 }
 
 // 9: of one node. Only a leaf with a species asks how many nodes have that.

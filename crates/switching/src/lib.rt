@@ -59,7 +59,7 @@ pub fn start(n: usize, lines: &lines::Lines, parts: &parts::Parts, t: &mut tree:
 {
     principal_parents(n, lines, t);
     ranks(n, parts, t);
-    tables::child_counts(n, lines, 1, FIELDS, t, tree::ARCS);
+    tables::child_counts(n, lines, lines::PRINCIPAL, FIELDS, t, tree::ARCS);
 }
 
 // An on arc that left p leaves q.
