@@ -1,8 +1,9 @@
 // The arcs of a network as the whole-network cost takes them, in one table: of each node its first and second child by principal arcs and its child by
 // a secondary arc, 0 for none, and the nodes in an order in which each comes after its parents.
-use columns::FIELDS;
+use layout::lines;
 use layout::lines::Lines;
 use tables::Table;
+use text_lines::FIELDS;
 ghost use mathlib.Core.Path.{_≡_};
 ghost use Prim.Native.Nat.{_≤_};
 ghost use lib.ListN.{length};
@@ -104,9 +105,9 @@ fn list_children(n: usize, lines: &Lines, out: &mut Arcs)
     requires { ⌜ (n ≤ 127) × (now out ≡ blank) ⌝ }
     ensures { λ _. ⌜ Childed (nodesIn n (now (lines .entry))) (now (out .exit)) × Clear orderColumn (now (out .exit)) ⌝ }
 {
-    tables::next_children(n, lines, 1, FIELDS, out, ORDER, FIRST);
-    tables::next_children(n, lines, 1, FIELDS, out, FIRST, SECOND);
-    tables::next_children(n, lines, 2, FIELDS, out, ORDER, OTHER);
+    tables::next_children(n, lines, lines::PRINCIPAL, FIELDS, out, ORDER, FIRST);
+    tables::next_children(n, lines, lines::PRINCIPAL, FIELDS, out, FIRST, SECOND);
+    tables::next_children(n, lines, lines::SECONDARY, FIELDS, out, ORDER, OTHER);
 }
 
 // The arcs of the network that the lines describe, in a table of zeros.

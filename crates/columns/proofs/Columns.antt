@@ -125,14 +125,17 @@ below-six P a b c d e f (suc (suc (suc (suc zero)))) h = e
 below-six P a b c d e f (suc (suc (suc (suc (suc zero))))) h = f
 below-six P a b c d e f (suc (suc (suc (suc (suc (suc k)))))) h = absurd (omega arith)
 
-pub place-positive : (k : ℕ) → k < 6 → 0 < placeValue k
+place-positive : (k : ℕ) → k < 6 → 0 < placeValue k
 place-positive = below-six (λ k. 0 < placeValue k) (lit< tt) (lit< tt) (lit< tt) (lit< tt) (lit< tt) (lit< tt)
+
+pub worth-positive : (k p : ℕ) → k < 6 → p ≡ placeValue k → 0 < p
+worth-positive k p l e = rw e (place-positive k l)
 
 place-bound : (k : ℕ) → k < 6 → placeValue k ≤ 100000
 place-bound = below-six (λ k. placeValue k ≤ 100000) (lit≤ tt) (lit≤ tt) (lit≤ tt) (lit≤ tt) (lit≤ tt) (lit≤ tt)
 
-pub term-bound : (d k : ℕ) → d ≤ 9 → k < 6 → d * placeValue k ≤ 900000
-term-bound d k h l = mul-le-mul h (place-bound k l)
+pub term-bound : (d k p : ℕ) → d ≤ 9 → k < 6 → p ≡ placeValue k → d * p ≤ 900000
+term-bound d k p h l e = rw e (mul-le-mul h (place-bound k l))
 
 -- each column by its number from the left
 pub column-at : (n : ℕ) → n < 1000000 → (k : ℕ) → k < 6 → getD (columns n) k 0 ≡ columnOf n (5 - k)

@@ -102,9 +102,9 @@ pub short : (s : List ℕ) (at : ℕ) → length s < at + 6 → Malformed ≡ fi
 short s at h = only-field s at Malformed (λ n _ e. short-spells s at n h e)
 
 -- one column more
-pub worth-turn : (s : List ℕ) (at n i d : ℕ) → i < 6 → n ≡ worthOf (six s at) i → d ≡ digitOf (getD s (at + i) 0)
-    → n + d * placeValue (5 - i) ≡ worthOf (six s at) (i + 1)
-worth-turn s at n i d h en ed = rw (add-one, en, ed, six-at s at i h)
+pub worth-turn : (s : List ℕ) (at n i d p : ℕ) → i < 6 → n ≡ worthOf (six s at) i → d ≡ digitOf (getD s (at + i) 0) → p ≡ placeValue (5 - i)
+    → n + d * p ≡ worthOf (six s at) (i + 1)
+worth-turn s at n i d p h en ed ep = rw (ep, add-one, en, ed, six-at s at i h)
 
 -- six bytes that are a number's columns, each by itself, spell it
 pub agrees : (s : List ℕ) (at n : ℕ) → n < 1000000 → at + 6 ≤ length s → ((k : ℕ) → k < 6 → getD s (at + k) 0 ≡ columnOf n (5 - k)) → true ≡ spells (six s at) n

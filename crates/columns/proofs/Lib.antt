@@ -3,4 +3,3 @@ pub mod Columns
 pub mod Fields
 pub mod Scans
 pub mod Writing
-pub mod Lines

@@ -224,6 +224,6 @@ front-blank s at low high el eh room = (
 pub value-small : (b w k v : ℕ) → fitting b w k ≡ true → v ≡ b % 16 → v ≤ 9
 value-small b w k v fit e = rw (e, low-bits b w k fit) (digit-small b)
 
-pub scan-turn : (s : List ℕ) (at n i v : ℕ) → i < 6 → n ≡ worthOf (six s at) i → fitting (getD s (at + i) 0) n (5 - i) ≡ true → v ≡ getD s (at + i) 0 % 16
-    → n + v * placeValue (5 - i) ≡ worthOf (six s at) (i + 1)
-scan-turn s at n i v h en fit ev = worth-turn s at n i v h en (ev ∙ low-bits (getD s (at + i) 0) n (5 - i) fit)
+pub scan-turn : (s : List ℕ) (at n i v p : ℕ) → i < 6 → n ≡ worthOf (six s at) i → fitting (getD s (at + i) 0) n (5 - i) ≡ true → v ≡ getD s (at + i) 0 % 16
+    → p ≡ placeValue (5 - i) → n + v * p ≡ worthOf (six s at) (i + 1)
+scan-turn s at n i v p h en fit ev = worth-turn s at n i v p h en (ev ∙ low-bits (getD s (at + i) 0) n (5 - i) fit)

@@ -12,7 +12,7 @@ use borrow.Author.Tests.{lt-ltb}
 use borrow.Rule.Slice.PartMut.{putMid}
 use Rattle.columns.specs.Fields.{columns, columnOf}
 use Rattle.columns.specs.Scans.{frontCount}
-use Rattle.columns.specs.Lines.{written, put}
+use Rattle.columns.specs.Writing.{written, put}
 use Rattle.columns.proofs.Columns.{columns-are, column-at, length-columns}
 
 -- nothing is written

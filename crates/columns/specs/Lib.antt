@@ -1,4 +1,4 @@
 pub mod Fields
 pub mod Scans
-pub mod Lines
+pub mod Writing
 pub mod Examples

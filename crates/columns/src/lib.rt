@@ -1,15 +1,15 @@
-// Six-column fields, and lines of them: reading by a cursor, writing into the part of the result that is lent.
+// A field of six columns: read by a cursor, written into the front of what is lent.
 ghost use mathlib.Core.Path.{_≡_};
 ghost use mathlib.Core.Bool.{true};
 ghost use mathlib.Core.Logic.{_↔_};
 ghost use mathlib.Core.List.{[]};
 ghost use Prim.Native.Nat.{_+_, _*_, _≤_, _<_};
 ghost use lib.ListN.{length, drop, replicate};
-ghost use Rattle.columns.specs.Fields.{columnOf, columns, fieldAt};
+ghost use Rattle.columns.specs.Fields.{placeValue, columnOf, columns, fieldAt};
 ghost use Rattle.columns.specs.Scans.{frontCount, Blank, twoSpaces, digit, opening, fitting};
-ghost use Rattle.columns.specs.Lines.{fieldCount, lineOf, lineLength, lineAt, endAt, malformed, Small, written, put};
+ghost use Rattle.columns.specs.Writing.{written, put};
 
-// What each column is worth, the last column first. Both reading and writing go by it.
+// What each column is worth, the last column first.
 const PLACES: [u32; 6] = [1, 10, 100, 1000, 10000, 100000];
 
 // The columns in front of the last two. Most numbers are below 100 and have spaces there, which are read and written at once.
@@ -17,12 +17,6 @@ const FRONT: usize = 4;
 
 // Two spaces as one number.
 const SPACES: u32 = 32 * (1 + 256);
-
-// How many fields a line has: the one place in the code that says so.
-pub const FIELDS: usize = 5;
-
-// The bytes of a line: its fields and a line feed.
-pub const LINE: usize = 6 * FIELDS + 1;
 
 // A place in the text.
 pub struct Cursor {
@@ -35,12 +29,6 @@ pub enum Field {
     Malformed,
 }
 
-// Where a line ends: the cursor after it, or nowhere, since there is no line.
-pub enum End {
-    After(Cursor),
-    Malformed,
-}
-
 // A byte as a wider number.
 fn wide(b: u8) -> u32
     ensures { λ r. ⌜ (r ≡ b) × (r < 256) ⌝ }
@@ -48,17 +36,25 @@ fn wide(b: u8) -> u32
     b as u32
 }
 
-// The byte in the column that is worth PLACES[place].
+// What the column of a place is worth. Both reading and writing go by it.
+fn worth(place: usize) -> u32
+    requires { ⌜ place < 6 ⌝ }
+    ensures { λ r. ⌜ r ≡ placeValue place ⌝ }
+{
+    PLACES[place]
+}
+
+// The byte in the column of a place.
 fn column(n: u32, place: usize) -> u8
     requires { ⌜ place < 6 ⌝ }
     ensures { λ r. ⌜ r ≡ columnOf n place ⌝ }
 {
-    let worth = PLACES[place];
-    let digit = b'0' + (n / worth % 10) as u8;
+    let unit = worth(place);
+    let digit = b'0' + (n / unit % 10) as u8;
     if place == 0 {
         return digit;
     }
-    if n < worth {
+    if n < unit {
         return b' ';
     }
     digit
@@ -112,7 +108,7 @@ fn is_opening(b: u8) -> bool
     true
 }
 
-// Whether a byte may stand in the column that is worth PLACES[place], after columns that are worth n.
+// Whether a byte may stand in the column of a place, after columns that are worth n.
 fn fits(b: u8, n: u32, place: usize) -> bool
     ensures { λ r. ⌜ r ≡ fitting b n place ⌝ }
 {
@@ -138,7 +134,7 @@ fn scan(s: &[u8], at: usize, first: usize) -> Field
         if !fits(b, n, 5 - i) {
             return Field::Malformed;
         }
-        n += wide(b % 16) * PLACES[5 - i];
+        n += wide(b % 16) * worth(5 - i);
         i += 1;
     }
     Field::Number(n, Cursor { at: at + 6 })
@@ -164,54 +160,6 @@ impl Cursor {
         }
         scan(s, at, 0)
     }
-}
-
-// The answer where there is no line; its numbers are 0.
-fn no_line(numbers: &mut [u32], place: usize) -> End
-    requires { ⌜ place + fieldCount ≤ length (now numbers) ⌝ }
-    ensures { λ r. ⌜ (r ≡ malformed .end) × (now (numbers .exit) ≡ put (now (numbers .entry)) place (malformed .line)) ⌝ }
-{
-    let mut i = 0;
-    while i < FIELDS {
-        numbers[place + i] = 0;
-        i += 1;
-    }
-    End::Malformed
-}
-
-// How a line ends after its last field: behind the line feed, if there is one.
-fn line_end(s: &[u8], c: Cursor) -> End
-    ensures { λ r. ⌜ r ≡ endAt (now (s .entry)) (c .at) [] .end ⌝ }
-{
-    let at = c.at;
-    if s.len() <= at {
-        return End::Malformed;
-    }
-    if s[at] != b'\n' {
-        return End::Malformed;
-    }
-    End::After(Cursor { at: at + 1 })
-}
-
-// The line at a cursor, field by field from the left, its numbers put at a place of what is lent; and the cursor after it.
-pub fn read_line(s: &[u8], start: Cursor, numbers: &mut [u32], place: usize) -> End
-    requires { ⌜ place + fieldCount ≤ length (now numbers) ⌝ }
-    ensures { λ r. ⌜ (r ≡ lineAt (now (s .entry)) (start .at) .end) × (now (numbers .exit) ≡ put (now (numbers .entry)) place (lineAt (now (s .entry)) (start .at) .line)) ⌝ }
-{
-    let mut c = start;
-    let mut i = 0;
-    while i < FIELDS {
-        let Field::Number(n, next) = c.field(s) else {
-            return no_line(numbers, place);
-        };
-        numbers[place + i] = n;
-        c = next;
-        i += 1;
-    }
-    let End::After(after) = line_end(s, c) else {
-        return no_line(numbers, place);
-    };
-    End::After(after)
 }
 
 // Writes spaces into the front columns of what is lent.
@@ -243,33 +191,10 @@ pub fn write_field(out: &mut [u8], n: u32)
     requires { ⌜ (6 ≤ length (now out)) × (n < 1000000) ⌝ }
     ensures { λ _. ⌜ now (out .exit) ≡ written (now (out .entry)) (columns n) ⌝ }
 {
-    if n < PLACES[6 - FRONT] {
+    if n < worth(6 - FRONT) {
         write_spaces(out);
         write_columns(out, n, FRONT);
     } else {
         write_columns(out, n, 0);
     }
-}
-
-// Writes a line into the front of what is lent.
-pub fn write_line(out: &mut [u8], line: &[u32; FIELDS])
-    requires { ⌜ (lineLength ≤ length (now out)) × Small (now line) ⌝ }
-    ensures { λ _. ⌜ now (out .exit) ≡ written (now (out .entry)) (lineOf (now (line .entry))) ⌝ }
-{
-    let mut i = 0;
-    while i < FIELDS {
-        let at = 6 * i;
-        write_field(&mut out[at..], line[i]);
-        i += 1;
-    }
-    out[6 * FIELDS] = b'\n';
-}
-
-// Writes a line at a place of the result: the part from there on is lent to the line writer. Returns the place after the line.
-pub fn append_line(result: &mut [u8], at: usize, line: &[u32; FIELDS]) -> usize
-    requires { ⌜ (at + lineLength ≤ length (now result)) × Small (now line) ⌝ }
-    ensures { λ r. ⌜ (now (result .exit) ≡ put (now (result .entry)) at (lineOf (now (line .entry)))) × (r ≡ at + lineLength) ⌝ }
-{
-    write_line(&mut result[at..], line);
-    at + LINE
 }

@@ -13,7 +13,7 @@ use Rattle.finite.specs.Range.{count}
 use Rattle.finite.proofs.Cases.{byEq}
 use Rattle.finite.proofs.Tests.{is-same, tally-le}
 use Rattle.finite.proofs.Count.{count-same, count-le}
-use Rattle.columns.specs.Lines.{written}
+use Rattle.columns.specs.Writing.{written}
 use Rattle.topology.specs.Networks.{Network, Node, Sound, isReticulation, reticulations}
 use Rattle.topology.specs.Switchings.{Switching, onSecondary, parent}
 use Rattle.topology.specs.Components.{component, reticulationCount, componentCount, memberOf, settingOf}

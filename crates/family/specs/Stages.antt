@@ -8,7 +8,7 @@ use lib.ListN.{length, drop}
 use Rattle.finite.specs.Tests.{same}
 use Rattle.finite.specs.Range.{count}
 use Rattle.finite.specs.Refusals.{verdict}
-use Rattle.columns.specs.Lines.{written}
+use Rattle.columns.specs.Writing.{written}
 use Rattle.topology.specs.Networks.{isReticulation}
 use Rattle.topology.specs.Lines.{network}
 use Rattle.layout.specs.Lines.{nodesIn, genesIn}

@@ -12,7 +12,7 @@ use Rattle.finite.specs.Range.{some, first}
 use Rattle.finite.proofs.Cases.{byEq}
 use Rattle.finite.proofs.Tests.{is-same, not-same, is-under}
 use Rattle.finite.proofs.Every.{first-start, first-turn, first-stop, first-done, some-start, some-turn, some-stop, some-done}
-use Rattle.columns.specs.Lines.{fieldCount}
+use Rattle.text_lines.specs.Lines.{fieldCount}
 use Rattle.tables.specs.Columns.{entry, spaced}
 use Rattle.tables.specs.Children.{isNext, next}
 use Rattle.layout.specs.Lines.{nodeSpecies, geneParent, geneSpecies, nodesIn, genesIn}

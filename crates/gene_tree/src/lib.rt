@@ -1,12 +1,13 @@
 // The gene tree of a sheet: refusals 12 and 13, and the table of each gene's children, leaf and parent.
-use columns::FIELDS;
 use layout::genes;
 use layout::genes::Genes;
+use layout::lines;
 use layout::lines::Lines;
 use layout::lines::gene_parent;
 use layout::lines::gene_species;
 use layout::lines::node_species;
 use tables::Table;
+use text_lines::FIELDS;
 ghost use mathlib.Core.Path.{_≡_};
 ghost use mathlib.Core.Bool.{_||_};
 ghost use Prim.Native.Nat.{_≤_};
@@ -57,7 +58,15 @@ fn note_bearers(n: usize, lines: &Lines, work: &mut Table)
     requires { ⌜ (n ≤ 127) × (now work ≡ blank) ⌝ }
     ensures { λ _. ⌜ Bearers (nodesIn n (now (lines .entry))) (now (work .exit)) × Clear childCountColumn (now (work .exit)) ⌝ }
 {
-    tables::next_children(n, lines, 4, FIELDS, work, CHILD_COUNT, BEARER);
+    tables::next_children(
+        n,
+        lines,
+        lines::NODE_SPECIES,
+        FIELDS,
+        work,
+        CHILD_COUNT,
+        BEARER,
+    );
 }
 
 fn bad_parent(g: usize, p: usize) -> bool
@@ -168,7 +177,14 @@ pub fn verdict(n: usize, m: usize, lines: &Lines) -> u32
 {
     let mut work = [0u32; 512];
     note_bearers(n, lines, &mut work);
-    tables::child_counts(m, lines, FIELDS * n + 1, FIELDS, &mut work, CHILD_COUNT);
+    tables::child_counts(
+        m,
+        lines,
+        FIELDS * n + lines::GENE_PARENT,
+        FIELDS,
+        &mut work,
+        CHILD_COUNT,
+    );
     from_twelve(n, m, lines, &work)
 }
 
@@ -193,7 +209,7 @@ fn fill_parents(n: usize, m: usize, lines: &Lines, genes: &mut Genes)
     let mut g: usize = 0;
     while g < m {
         let w = g + 1;
-        let p = lines[FIELDS * n + 1 + FIELDS * w];
+        let p = lines[FIELDS * n + lines::GENE_PARENT + FIELDS * w];
         tables::put(genes, genes::PARENT, w, p);
         g = w;
     }
@@ -207,7 +223,7 @@ pub fn fill(n: usize, m: usize, lines: &Lines, genes: &mut Genes)
 {
     let mut work = [0u32; 512];
     note_bearers(n, lines, &mut work);
-    let parents = FIELDS * n + 1;
+    let parents = FIELDS * n + lines::GENE_PARENT;
     tables::next_children(m, lines, parents, FIELDS, genes, genes::PARENT, genes::LEFT);
     tables::next_children(m, lines, parents, FIELDS, genes, genes::LEFT, genes::RIGHT);
     fill_leaves(n, m, lines, &work, genes);

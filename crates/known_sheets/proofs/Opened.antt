@@ -6,7 +6,7 @@ use Rattle.finite.specs.Least.{firstLeast}
 use Rattle.finite.specs.Tables.{filled}
 use Rattle.finite.specs.Refusals.{verdict}
 use Rattle.columns.specs.Fields.{numeralIn, numeral, columns, sameBytes, spells, fieldAt}
-use Rattle.columns.specs.Lines.{fieldsOf, lineOf, malformed, endAt, restAt, lineAt}
+use Rattle.text_lines.specs.Lines.{fieldsOf, lineOf, malformed, endAt, restAt, lineAt}
 use Rattle.sheet.specs.Sheets.{lineNo, isLine, cell, limits, refusal3, refusal4, whole, nodeLine, geneLine, refusal5}
 use Rattle.topology.specs.Climbing.{seekIn, seek, over, meet, alongIn, along}
 use Rattle.topology.specs.Networks.{isReticulation, reticulations}

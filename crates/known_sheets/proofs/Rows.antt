@@ -8,7 +8,7 @@ use lib.ListN.{length, drop}
 use Rattle.finite.specs.Tests.{same}
 use Rattle.finite.proofs.Tests.{same-is, and-l, and-r, not-true, cond-yes, cond-no}
 use Rattle.columns.specs.Fields.{sameBytes}
-use Rattle.columns.specs.Lines.{written}
+use Rattle.columns.specs.Writing.{written}
 use Rattle.columns.proofs.Bytes.{same-eq}
 use Rattle.histories.specs.Words.{words}
 use Rattle.score.specs.declared.Answer.{Answer}

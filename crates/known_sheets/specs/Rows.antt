@@ -6,7 +6,7 @@ use Prim.Native.Nat.{ℕ}
 use Prim.Native.String.{String, [] as nil, _∷_ as _◂_}
 use Prim.Native.Char.{code}
 use lib.ListN.{length, drop}
-use Rattle.columns.specs.Lines.{written}
+use Rattle.columns.specs.Writing.{written}
 use Rattle.score.specs.declared.Answer.{Answer}
 use Rattle.score.specs.Outcome.{Promise}
 

@@ -4,9 +4,13 @@
 use mathlib.Core.List.{List}
 use Prim.Native.Nat.{ℕ, _+_, _*_}
 use Rattle.finite.specs.Tables.{within}
-use Rattle.columns.specs.Lines.{fieldCount}
+use Rattle.text_lines.specs.Lines.{fieldCount}
 use Rattle.tables.specs.Columns.{spaced}
 use Rattle.topology.specs.Lines.{NodeLines, GeneLines}
+
+-- the numbers of 256 lines: room for the header and at most 127 nodes and 127 genes
+abbrev pub cellCount : ℕ
+cellCount = 256 * fieldCount
 
 abbrev pub principal : List ℕ → ℕ → ℕ
 principal l = spaced l 1 fieldCount

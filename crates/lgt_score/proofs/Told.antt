@@ -4,7 +4,7 @@ use Prim.Native.Nat.{ℕ}
 use mathlib.Core.Path.{_≡_, ap, _∙_}
 use mathlib.Core.List.{List, [], _∷_, _++_, append-nil}
 use Rattle.columns.specs.Fields.{columns}
-use Rattle.columns.specs.Lines.{written}
+use Rattle.columns.specs.Writing.{written}
 use Rattle.columns.proofs.Columns.{length-columns}
 use Rattle.lgt_score.specs.Refused.{refusedWord, refusedLine}
 

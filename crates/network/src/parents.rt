@@ -1,9 +1,10 @@
 // Refusals 6 and 7: the parents and the stamps.
-use columns::FIELDS;
+use layout::lines;
 use layout::lines::Lines;
 use layout::lines::principal;
 use layout::lines::secondary;
 use layout::lines::stamp;
+use text_lines::FIELDS;
 ghost use mathlib.Core.Path.{_≡_};
 ghost use mathlib.Core.Bool.{false};
 ghost use Prim.Native.Nat.{_≤_};
@@ -57,7 +58,7 @@ pub fn six(n: usize, lines: &Lines) -> bool
     if some_bad_parents(n, lines) {
         return true;
     }
-    tables::count_of(n, lines, 1, FIELDS, 0) != 1
+    tables::count_of(n, lines, lines::PRINCIPAL, FIELDS, 0) != 1
 }
 
 // 7: of one node.

@@ -13,8 +13,9 @@ use Rattle.finite.specs.Tests.{tally}
 use Rattle.finite.specs.Range.{count}
 use Rattle.finite.proofs.Tests.{is-same, not-same}
 use Rattle.finite.proofs.Sum.{sum-suc, sum-more, sum-range-le, sum-zero-range}
-use Rattle.columns.specs.Lines.{lineLength, lineOf, Small, put, written}
-use Rattle.columns.proofs.Lines.{length-line}
+use Rattle.columns.specs.Writing.{put, written}
+use Rattle.text_lines.specs.Lines.{lineLength, lineOf, Small}
+use Rattle.text_lines.proofs.Lines.{length-line}
 use Rattle.columns.proofs.Writing.{put-put, put-written, put-nil, put-front, length-put}
 use Rattle.topology.specs.Networks.{isReticulation}
 use Rattle.topology.specs.Lines.{network}

@@ -7,7 +7,8 @@ use mathlib.Core.Path.{_≡_}
 use mathlib.Core.List.{List, [], _∷_, _++_}
 use Rattle.finite.specs.Tests.{tally}
 use Rattle.finite.specs.Range.{count}
-use Rattle.columns.specs.Lines.{lineLength, lineOf, put}
+use Rattle.columns.specs.Writing.{put}
+use Rattle.text_lines.specs.Lines.{lineLength, lineOf}
 use Rattle.report.specs.declared.Totals.{Totals}
 
 -- the numbers of a line: five, as `fieldCount` of columns says

@@ -18,7 +18,8 @@ ghost use Prim.Native.Nat.{_+_, _*_, _≤_, _<_};
 ghost use lib.ListN.{length};
 ghost use Rattle.finite.specs.Tests.{tally};
 ghost use Rattle.finite.specs.Range.{count};
-ghost use Rattle.columns.specs.Lines.{lineLength, written};
+ghost use Rattle.columns.specs.Writing.{written};
+ghost use Rattle.text_lines.specs.Lines.{lineLength};
 ghost use Rattle.report.specs.Reports.{SmallTotals, totalsLines, always, fiveOf, reportLength, SmallFive, Appended, Extended};
 ghost use Rattle.report.specs.Tables.{hasSecondary, reticulationIn, reticulationNumbers, geneNumbers, tabledReport, SmallNode, SmallNodes, SmallGene, SmallGenes};
 
@@ -37,7 +38,7 @@ pub struct Totals {
 }
 
 // The numbers of a line.
-fn line(a: u32, b: u32, c: u32, d: u32, e: u32) -> [u32; columns::FIELDS]
+fn line(a: u32, b: u32, c: u32, d: u32, e: u32) -> [u32; text_lines::FIELDS]
     ensures { λ r. ⌜ r ≡ fiveOf a b c d e ⌝ }
 {
     [a, b, c, d, e]
@@ -49,7 +50,7 @@ fn write_five(result: &mut [u8], start: usize, a: u32, b: u32, c: u32, d: u32, e
     ensures { λ r. ⌜ Appended (now (result .entry)) (now (result .exit)) start r true (fiveOf a b c d e) ⌝ }
 {
     let fields = line(a, b, c, d, e);
-    columns::append_line(result, start, &fields)
+    text_lines::append_line(result, start, &fields)
 }
 
 // The first two lines.

@@ -9,7 +9,7 @@ use native.Mathlib.Omega.{arith}
 use Rattle.finite.specs.Refusals.{Refusal, verdict}
 use Rattle.finite.proofs.Cases.{byBool}
 use Rattle.finite.proofs.Tests.{is-same, not-same}
-use Rattle.columns.specs.Lines.{written}
+use Rattle.columns.specs.Writing.{written}
 use Rattle.shapes.specs.Refusals.{shapeRefusals, afterEight}
 use Rattle.network.specs.Refusals.{afterSix, networkRefusals}
 use Rattle.components.specs.Refusals.{componentRefusals}

@@ -15,7 +15,7 @@ use Rattle.finite.specs.Refusals.{verdict}
 use Rattle.finite.proofs.Tables.{within-same}
 use Rattle.finite.proofs.Cases.{byBool}
 use Rattle.finite.proofs.Tests.{not-same, and-no-r, told-not-yes, told-not-no, not-false}
-use Rattle.columns.specs.Lines.{fieldCount}
+use Rattle.text_lines.specs.Lines.{fieldCount}
 use Rattle.tables.specs.Columns.{spaced}
 use Rattle.topology.specs.Lines.{network}
 use Rattle.layout.specs.Lines.{stamp, nodesIn, genesIn}

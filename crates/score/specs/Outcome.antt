@@ -9,7 +9,7 @@ use lib.ListN.{length, drop}
 use Rattle.finite.specs.Tests.{same}
 use Rattle.finite.specs.Refusals.{First, NoneApplies}
 use Rattle.histories.specs.Words.{words}
-use Rattle.columns.specs.Lines.{written}
+use Rattle.columns.specs.Writing.{written}
 use Rattle.family.specs.Families.{Contents, familyIn}
 use Rattle.family.specs.Reports.{reportIn, Reported}
 use Rattle.score.specs.declared.Answer.{Answer}

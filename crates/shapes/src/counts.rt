@@ -1,9 +1,10 @@
 // What is counted once for the refusals 8, 9 and 10, in one table: the arcs out of each node, and the nodes of each species.
-use columns::FIELDS;
+use layout::lines;
 use layout::lines::Lines;
 use layout::lines::principal;
 use layout::lines::secondary;
 use tables::Table;
+use text_lines::FIELDS;
 ghost use mathlib.Core.Path.{_≡_};
 ghost use Prim.Native.Nat.{_≤_};
 ghost use Rattle.finite.specs.Range.{children};
@@ -50,8 +51,8 @@ pub fn fill(n: usize, lines: &Lines, counts: &mut Table)
     requires { ⌜ (n ≤ 127) × (now counts ≡ blank) ⌝ }
     ensures { λ _. ⌜ Counts (nodesIn n (now (lines .entry))) (now (counts .exit)) ⌝ }
 {
-    tables::child_counts(n, lines, 1, FIELDS, counts, PRINCIPALS);
-    tables::child_counts(n, lines, 2, FIELDS, counts, SECONDARIES);
-    tables::child_counts(n, lines, 4, FIELDS, counts, BEARERS);
+    tables::child_counts(n, lines, lines::PRINCIPAL, FIELDS, counts, PRINCIPALS);
+    tables::child_counts(n, lines, lines::SECONDARY, FIELDS, counts, SECONDARIES);
+    tables::child_counts(n, lines, lines::NODE_SPECIES, FIELDS, counts, BEARERS);
     plain_counts(n, lines, counts);
 }

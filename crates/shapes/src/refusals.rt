@@ -3,13 +3,14 @@ use super::counts::BEARERS;
 use super::counts::PLAINS;
 use super::counts::PRINCIPALS;
 use super::counts::SECONDARIES;
-use columns::FIELDS;
+use layout::lines;
 use layout::lines::Lines;
 use layout::lines::node_species;
 use layout::lines::principal;
 use layout::lines::secondary;
 use tables::Table;
 use tables::index;
+use text_lines::FIELDS;
 ghost use mathlib.Core.Path.{_≡_};
 ghost use mathlib.Core.Logic.{_≢_};
 ghost use Prim.Native.Nat.{_≤_};
@@ -79,7 +80,7 @@ fn bearers(n: usize, lines: &Lines, counts: &Table, k: usize) -> usize
     if k <= n {
         return index(counts, BEARERS, k);
     }
-    tables::count_of(n, lines, 4, FIELDS, k)
+    tables::count_of(n, lines, lines::NODE_SPECIES, FIELDS, k)
 }
 
 // 9: of one node. Only a leaf with a species asks how many nodes have that.

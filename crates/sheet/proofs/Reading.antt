@@ -12,10 +12,10 @@ use Rattle.finite.specs.Tests.{same}
 use Rattle.finite.specs.Tables.{at}
 use Rattle.finite.proofs.Cases.{byBool, clash}
 use Rattle.finite.proofs.Tests.{is-same, same-is, not-same, and-no-r, told-not-yes, told-not-no}
-use Rattle.columns.specs.Lines.{fieldCount, lineLength, lineAt}
-use Rattle.columns.specs.declared.End.{End}
-use Rattle.columns.specs.declared.End.the-variants.{After, Malformed}
-use Rattle.columns.proofs.Lines.{malformed-zero}
+use Rattle.text_lines.specs.Lines.{fieldCount, lineLength, lineAt}
+use Rattle.text_lines.specs.declared.End.{End}
+use Rattle.text_lines.specs.declared.End.the-variants.{After, Malformed}
+use Rattle.text_lines.proofs.Lines.{malformed-zero}
 use Rattle.sheet.specs.declared.Headed.the-variants.{Header as accepted, Refused}
 use Rattle.layout.specs.Headers.{WithinLimits}
 use Rattle.sheet.specs.Sheets.{found, linesPut, allLines, lineNo, isLine, cell, headerBy, limits, refusal3, refusal4, headerOf, whole, nodeLine, geneLine, cellsOf, nodeNumbered, geneFieldsFit, geneNumbered}

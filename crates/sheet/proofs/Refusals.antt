@@ -14,10 +14,10 @@ use Rattle.finite.proofs.Cases.{byBool, clash}
 use Rattle.finite.proofs.Tests.{is-same, same-is, and-l, and-r, not-true, not-false, not-yes}
 use Rattle.finite.proofs.Every.{every-at, is-every, every-same}
 use Rattle.layout.specs.Headers.{WithinLimits}
-use Rattle.columns.specs.Lines.{fieldCount, lineLength, lineAt, LineIs}
-use Rattle.columns.specs.declared.End.{End}
-use Rattle.columns.specs.declared.End.the-variants.{After, Malformed}
-use Rattle.columns.proofs.Lines.{line-is, small-read, one-line}
+use Rattle.text_lines.specs.Lines.{fieldCount, lineLength, lineAt, LineIs}
+use Rattle.text_lines.specs.declared.End.{End}
+use Rattle.text_lines.specs.declared.End.the-variants.{After, Malformed}
+use Rattle.text_lines.proofs.Lines.{line-is, small-read, one-line}
 use Rattle.sheet.specs.Sheets.{found, lineNo, isLine, cell, headerIn, nodes, genes, limits, refusal3, refusal4, whole, nodeLine, geneLine, refusal5, Line, NodeLine, GeneLine, WellFormed, cellsOf, nodeNumbered, geneNumbered}
 use Rattle.sheet.proofs.Limits.{limits-is, is-limits}
 use Rattle.sheet.proofs.Reading.{node-numbered, gene-numbered}

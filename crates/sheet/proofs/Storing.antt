@@ -11,9 +11,11 @@ use native.Mathlib.Numerals.{add-one}
 use native.Mathlib.Omega.{arith}
 use Rattle.finite.specs.Tables.{at}
 use Rattle.finite.proofs.Cases.{byEq}
-use Rattle.columns.specs.Lines.{fieldCount, lineLength, lineAt, put, written}
-use Rattle.columns.specs.declared.End.{End}
-use Rattle.columns.proofs.Lines.{length-read}
+use Rattle.columns.specs.Writing.{put, written}
+use Rattle.text_lines.specs.Lines.{fieldCount, lineLength, lineAt}
+use Rattle.text_lines.specs.declared.End.{End}
+use Rattle.text_lines.proofs.Lines.{length-read}
+use Rattle.layout.specs.Lines.{cellCount}
 use Rattle.columns.proofs.Writing.{length-put}
 use Rattle.sheet.specs.Sheets.{found, lineNo, isLine, cell, linesPut, allLines, cellsOf}
 
@@ -50,7 +52,7 @@ pub lines-done : (d s c : List ℕ) (a : Bool) (n i : ℕ) → i ≤ n → n ≤
 lines-done d s c a n i l h ec ea = let q : i ≡ n = omega arith in rw (← q) (ea, ec)
 
 -- the cells
-pub cells-start : (s : List ℕ) → replicate 1280 0 ≡ cellsOf s 0
+pub cells-start : (s : List ℕ) → replicate cellCount 0 ≡ cellsOf s 0
 unfolding cellsOf linesPut
 cells-start s = refl
 
@@ -83,7 +85,7 @@ lines-at d s (suc k) i j room l h =
 
 pub cells-at : (s : List ℕ) (k i j : ℕ) → k ≤ 255 → i < k → j < fieldCount → at (cellsOf s k) (fieldCount * i + j) ≡ cell s i j
 unfolding cellsOf
-cells-at s k i j few = let e : length {A = ℕ} (replicate 1280 0) ≡ 1280 = length-replicate {A = ℕ} 1280 0 in lines-at (replicate 1280 0) s k i j (omega arith)
+cells-at s k i j few = let e : length {A = ℕ} (replicate cellCount 0) ≡ cellCount = length-replicate {A = ℕ} cellCount 0 in lines-at (replicate cellCount 0) s k i j (omega arith)
 
 -- a line put over as many numbers is all there is
 pub one-line : (d s : List ℕ) → length d ≡ fieldCount → linesPut d s 1 ≡ lineNo s 0 .line

@@ -8,9 +8,11 @@ use lib.ListN.{length, getD, take, drop, replicate}
 use Rattle.finite.specs.Tests.{same, under}
 use Rattle.finite.specs.Range.{every}
 use Rattle.finite.specs.Tables.{at}
-use Rattle.columns.specs.Lines.{fieldCount, lineLength, Reading, lineAt, lineOf, put, Small}
-use Rattle.columns.specs.declared.End.{End}
-use Rattle.columns.specs.declared.End.the-variants.{After, Malformed}
+use Rattle.columns.specs.Writing.{put}
+use Rattle.text_lines.specs.Lines.{fieldCount, lineLength, Reading, lineAt, lineOf, Small}
+use Rattle.text_lines.specs.declared.End.{End}
+use Rattle.text_lines.specs.declared.End.the-variants.{After, Malformed}
+use Rattle.layout.specs.Lines.{cellCount}
 use Rattle.layout.specs.declared.Header.{Header}
 use Rattle.sheet.specs.declared.Headed.{Headed}
 use Rattle.sheet.specs.declared.Headed.the-variants.{Header as accepted, Refused}
@@ -115,9 +117,9 @@ unfoldable pub allLines : List ℕ → ℕ → Bool
 allLines s zero = true
 allLines s (suc k) = isLine s k && allLines s k
 
--- the numbers of the first k lines in an array that holds those of 256 lines, 0 where no line was read
+-- the numbers of the first k lines in an array that has room for those of all lines, 0 where no line was read
 unfoldable pub cellsOf : List ℕ → ℕ → List ℕ
-cellsOf s k = linesPut (replicate 1280 0) s k
+cellsOf s k = linesPut (replicate cellCount 0) s k
 
 -- the lines as an array of cells has them: a malformed line bears the number 0
 unfoldable pub nodeNumbered : List ℕ → ℕ → Bool

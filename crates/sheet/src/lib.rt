@@ -1,15 +1,15 @@
 // A family sheet: from bytes to the numbers of its lines, and the refusals 3, 4 and 5.
 use columns::Cursor;
-use columns::End;
 use layout::Header;
 use layout::lines::Lines;
+use text_lines::End;
 ghost use mathlib.Core.Path.{_≡_};
 ghost use mathlib.Core.Bool.{_&&_};
 ghost use Prim.Native.Nat.{_+_, _*_, _≤_, _<_};
 ghost use lib.ListN.{length};
 ghost use Rattle.finite.specs.Tests.{same};
 ghost use Rattle.finite.specs.Range.{every};
-ghost use Rattle.columns.specs.Lines.{fieldCount};
+ghost use Rattle.text_lines.specs.Lines.{fieldCount};
 ghost use Rattle.sheet.specs.Sheets.{found, allLines, linesPut, headerOf, limits, whole, cellsOf, nodeNumbered, geneFieldsFit, geneNumbered};
 
 // A header within the limits, or the number of its refusal.
@@ -37,9 +37,9 @@ fn read_lines(s: &[u8], count: usize, numbers: &mut [u32]) -> bool
     let mut i = 0;
     while i < count {
         let start = Cursor {
-            at: columns::LINE * i,
+            at: text_lines::LINE * i,
         };
-        let end = columns::read_line(s, start, numbers, columns::FIELDS * i);
+        let end = text_lines::read_line(s, start, numbers, text_lines::FIELDS * i);
         all = and_line(all, end);
         i += 1;
     }
@@ -47,7 +47,7 @@ fn read_lines(s: &[u8], count: usize, numbers: &mut [u32]) -> bool
 }
 
 // 4: each number of a header line within its limits.
-fn within_limits(line: &[u32; columns::FIELDS]) -> bool
+fn within_limits(line: &[u32; text_lines::FIELDS]) -> bool
     ensures { λ r. ⌜ r ≡ limits (now (line .entry)) ⌝ }
 {
     if line[0] == 0 {
@@ -78,7 +78,7 @@ fn within_limits(line: &[u32; columns::FIELDS]) -> bool
 pub fn read_header(s: &[u8]) -> Headed
     ensures { λ r. ⌜ r ≡ headerOf (now (s .entry)) ⌝ }
 {
-    let mut line = [0u32; columns::FIELDS];
+    let mut line = [0u32; text_lines::FIELDS];
     if !read_lines(s, 1, &mut line) {
         return Headed::Refused(3);
     }
@@ -107,7 +107,7 @@ pub fn is_whole(s: &[u8], n: usize, m: usize) -> bool
     requires { ⌜ (n ≤ 127) × (m ≤ 127) ⌝ }
     ensures { λ r. ⌜ r ≡ whole (now (s .entry)) n m ⌝ }
 {
-    let length = columns::LINE * (1 + n + m);
+    let length = text_lines::LINE * (1 + n + m);
     if s.len() != length {
         return false;
     }
@@ -132,7 +132,7 @@ pub fn nodes_in_order(cells: &Lines, n: usize) -> bool
     let mut v = 0;
     while v < n {
         let w = v + 1;
-        if !bears(cells[columns::FIELDS * w], w) {
+        if !bears(cells[text_lines::FIELDS * w], w) {
             return false;
         }
         v = w;
@@ -164,7 +164,7 @@ pub fn genes_in_order(cells: &Lines, n: usize, m: usize) -> bool
     let mut g = 0;
     while g < m {
         let h = g + 1;
-        let i = columns::FIELDS * (n + h);
+        let i = text_lines::FIELDS * (n + h);
         if !is_gene_line(cells[i], cells[i + 3], cells[i + 4], h) {
             return false;
         }

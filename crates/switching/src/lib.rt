@@ -1,9 +1,9 @@
 // The tree that a network displays, kept for one switching after another: single reticulations are turned, so that a trial of the search fills no table.
-use columns::FIELDS;
 use layout::choices::Choices;
 use layout::lines;
 use layout::parts;
 use layout::tree;
+use text_lines::FIELDS;
 ghost use mathlib.Core.Path.{_≡_};
 ghost use Prim.Native.Nat.{ℕ, _≤_, _<_, _+_};
 ghost use lib.ListN.{length};
@@ -59,7 +59,7 @@ pub fn start(n: usize, lines: &lines::Lines, parts: &parts::Parts, t: &mut tree:
 {
     principal_parents(n, lines, t);
     ranks(n, parts, t);
-    tables::child_counts(n, lines, 1, FIELDS, t, tree::ARCS);
+    tables::child_counts(n, lines, lines::PRINCIPAL, FIELDS, t, tree::ARCS);
 }
 
 // An on arc that left p leaves q.

@@ -5,6 +5,7 @@ use mathlib.Core.Path.{_≡_, refl, sym, ap, _∙_}
 use mathlib.Core.Logic.{_≢_}
 use mathlib.Core.List.{List}
 use Prim.Native.Nat.{ℕ, _+_, _≤_, _<_}
+use lib.ListN.{length}
 use native.Mathlib.Omega.{arith}
 use Rattle.finite.specs.Tests.{same}
 use Rattle.finite.specs.Range.{children}
@@ -12,9 +13,16 @@ use Rattle.finite.proofs.Cases.{byEq, byLess}
 use Rattle.finite.proofs.Tests.{is-same, not-same}
 use Rattle.finite.proofs.Count.{count-start, count-turn}
 use Rattle.tables.specs.Columns.{entry, written, column, Clear, Kept}
-use Rattle.tables.specs.Children.{inside, raised, Counted}
+use Rattle.tables.specs.Children.{inside, raised}
 use Rattle.tables.proofs.Columns.{long, write-here, write-row, write-column, column-is, kept-write, kept-then}
 use Rattle.tables.proofs.Nexts.{inside-in, inside-out}
+
+-- column k once the children 1..w are counted; row 0 may hold any number up to w
+pub record Counted (n : ℕ) (f : ℕ → ℕ) (k w : ℕ) (out : List ℕ) : Type 0 where
+  pub long : length out ≡ 512
+  pub within : (v : ℕ) → 1 ≤ v → v ≤ n → entry out k v ≡ children w f v
+  pub past : (v : ℕ) → n < v → entry out k v ≡ 0
+  pub small : (v : ℕ) → entry out k v ≤ w
 
 -- the row of a parent is one of 0 to n
 inside-high : (n p : ℕ) → inside n p ≤ n

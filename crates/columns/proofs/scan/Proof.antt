@@ -48,28 +48,25 @@ returns c =
 wide-requires : tie.Need-wide-requires Inv-loop μ-loop
 wide-requires c κs = search needs
 
-sub-n : tie.Need-sub-n Inv-loop μ-loop
-sub-n c = search needs
+sub-worth : tie.Need-sub-worth Inv-loop μ-loop
+sub-worth c = search needs
+
+worth-requires : tie.Need-worth-requires Inv-loop μ-loop
+worth-requires c κs = search needs
 
 mul-n : tie.Need-mul-n Inv-loop μ-loop
-mul-n c = search needs
-
-array-read-n : tie.Need-array-read-n Inv-loop μ-loop
-array-read-n c = search needs
-
-mul-n-2 : tie.Need-mul-n-2 Inv-loop μ-loop
-mul-n-2 c =
-    let l = c .before .before .before .before .before .loop in
-    let a = c .before .before .before .before .before .before .before .args in
-    let fit : fitting (getD (a .s .now) (a .at + l .i) 0) (l .n) (5 - l .i) ≡ true = sym (c .before .before .fits2 .ensures) ∙ not-false _ (c .before .if1 .left) in
-    omega (arith, term-bound (c .wide .result) (5 - l .i) (value-small _ _ _ _ fit (c .wide .ensures .0)) (search needs))
+mul-n c =
+    let l = c .before .before .before .before .before .before .loop in
+    let a = c .before .before .before .before .before .before .before .before .args in
+    let fit : fitting (getD (a .s .now) (a .at + l .i) 0) (l .n) (5 - l .i) ≡ true = sym (c .before .before .before .fits2 .ensures) ∙ not-false _ (c .before .before .if1 .left) in
+    omega (arith, term-bound (c .before .wide .result) (5 - l .i) (c .worth .result) (value-small _ _ _ _ fit (c .before .wide .ensures .0)) (search needs) (c .worth .ensures))
 
 add-n : tie.Need-add-n Inv-loop μ-loop
 add-n c =
-    let l = c .before .before .before .before .before .loop in
-    let a = c .before .before .before .before .before .before .before .args in
-    let fit : fitting (getD (a .s .now) (a .at + l .i) 0) (l .n) (5 - l .i) ≡ true = sym (c .before .before .fits2 .ensures) ∙ not-false _ (c .before .if1 .left) in
-    omega (arith, term-bound (c .wide .result) (5 - l .i) (value-small _ _ _ _ fit (c .wide .ensures .0)) (search needs))
+    let l = c .before .before .before .before .before .before .loop in
+    let a = c .before .before .before .before .before .before .before .before .args in
+    let fit : fitting (getD (a .s .now) (a .at + l .i) 0) (l .n) (5 - l .i) ≡ true = sym (c .before .before .before .fits2 .ensures) ∙ not-false _ (c .before .before .if1 .left) in
+    omega (arith, term-bound (c .before .wide .result) (5 - l .i) (c .worth .result) (value-small _ _ _ _ fit (c .before .wide .ensures .0)) (search needs) (c .worth .ensures))
 
 add-i : tie.Need-add-i Inv-loop μ-loop
 add-i c = search needs
@@ -79,17 +76,17 @@ loop-less c = search needs
 
 loop-again : tie.Need-loop-again Inv-loop μ-loop
 loop-again c =
-    let l = c .before .before .before .before .before .loop in
-    let a = c .before .before .before .before .before .before .before .args in
-    let fit : fitting (getD (a .s .now) (a .at + l .i) 0) (l .n) (5 - l .i) ≡ true = sym (c .before .before .fits2 .ensures) ∙ not-false _ (c .before .if1 .left) in (
+    let l = c .before .before .before .before .before .before .loop in
+    let a = c .before .before .before .before .before .before .before .before .args in
+    let fit : fitting (getD (a .s .now) (a .at + l .i) 0) (l .n) (5 - l .i) ≡ true = sym (c .before .before .before .fits2 .ensures) ∙ not-false _ (c .before .before .if1 .left) in (
       search needs,
-      omega (arith, term-bound (c .wide .result) (5 - l .i) (value-small _ _ _ _ fit (c .wide .ensures .0)) (search needs)),
-      scan-turn (a .s .now) (a .at) (l .n) (l .i) (c .wide .result) (search needs) (l .inv .2) fit (c .wide .ensures .0),
+      omega (arith, term-bound (c .before .wide .result) (5 - l .i) (c .worth .result) (value-small _ _ _ _ fit (c .before .wide .ensures .0)) (search needs) (c .worth .ensures)),
+      scan-turn (a .s .now) (a .at) (l .n) (l .i) (c .before .wide .result) (c .worth .result) (search needs) (l .inv .2) fit (c .before .wide .ensures .0) (c .worth .ensures),
       below-more _ (l .i) (l .inv .3) (rw (l .inv .2) at fit),
     )
 
-add-t19 : tie.Need-add-t19 Inv-loop μ-loop
-add-t19 c = search needs
+add-t15 : tie.Need-add-t15 Inv-loop μ-loop
+add-t15 c = search needs
 
 returns-2 : tie.Need-returns-2 Inv-loop μ-loop
 returns-2 c =
@@ -110,13 +107,12 @@ scan-spec =
     fits-requires
     returns
     wide-requires
-    sub-n
+    sub-worth
+    worth-requires
     mul-n
-    array-read-n
-    mul-n-2
     add-n
     add-i
     loop-less
     loop-again
-    add-t19
+    add-t15
     returns-2)

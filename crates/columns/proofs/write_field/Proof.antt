@@ -6,14 +6,11 @@ use borrow.Author.Needs.{needs}
 use Rattle.columns.proofs.write_field.Statement.{statement}
 use Rattle.columns.proofs.write_field.Tie as tie
 
-sub-if1 : tie.Need-sub-if1
-sub-if1 c = search needs
+sub-worth : tie.Need-sub-worth
+sub-worth c = search needs
 
-mul-if1 : tie.Need-mul-if1
-mul-if1 c = search needs
-
-array-read-if1 : tie.Need-array-read-if1
-array-read-if1 c = search needs
+worth-requires : tie.Need-worth-requires
+worth-requires c κs = search needs
 
 write-spaces-requires : tie.Need-write-spaces-requires
 write-spaces-requires c κs = search needs
@@ -29,7 +26,7 @@ same-length c = search needs
 
 returns : tie.Need-returns
 returns c =
-    let a = c .before .before .before .before .before .before .before .before .before .before .args in
+    let a = c .before .before .before .before .before .before .before .before .before .before .before .args in
     field-parts (a .out .now) _ _ (a .n) (search needs) (search needs) (c .before .before .write-columns .ensures)
 
 same-length-2 : tie.Need-same-length-2
@@ -42,9 +39,8 @@ pub write-field-spec : {M : Type 1} → statement M
 write-field-spec =
     tie.close
     (tie.spec
-    sub-if1
-    mul-if1
-    array-read-if1
+    sub-worth
+    worth-requires
     write-spaces-requires
     write-columns-requires
     write-columns-requires-2

@@ -3,9 +3,8 @@
 use Prim.Native.Nat.{_-_, _≤_}
 use mathlib.Core.Path.{_∙_}
 use Rattle.tables.specs.Columns.{spaced, Kept}
-use Rattle.tables.specs.Children.{Counted}
 use Rattle.tables.proofs.Columns.{spaced-in, kept-none}
-use Rattle.tables.proofs.Counts.{counted-start, counted-turn, counted-few, counted-done, kept-raised}
+use Rattle.tables.proofs.Counts.{Counted, counted-start, counted-turn, counted-few, counted-done, kept-raised}
 use borrow.Author.Needs.{needs}
 use Rattle.tables.proofs.child_counts.Statement.{statement}
 use Rattle.tables.proofs.child_counts.Tie as tie

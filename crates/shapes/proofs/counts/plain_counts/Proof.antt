@@ -3,9 +3,8 @@
 use Prim.Native.Nat.{_-_, _≤_}
 use mathlib.Core.Path.{_∙_}
 use Rattle.tables.specs.Columns.{Kept}
-use Rattle.tables.specs.Children.{Counted}
 use Rattle.tables.proofs.Columns.{kept-none}
-use Rattle.tables.proofs.Counts.{counted-start, counted-turn, counted-few, counted-done, kept-raised}
+use Rattle.tables.proofs.Counts.{Counted, counted-start, counted-turn, counted-few, counted-done, kept-raised}
 use Rattle.layout.specs.Lines.{nodesIn}
 use Rattle.shapes.specs.ShortForms.{plainParentAt}
 use Rattle.shapes.proofs.AsRead.{plain-read}

@@ -4,14 +4,14 @@ use Prim.Native.Nat.{ℕ, zero, suc, _+_, _*_, _<_}
 use mathlib.Core.Path.{_≡_}
 use mathlib.Core.Bool.{cond}
 use mathlib.Core.List.{List, [], _∷_, _++_}
-use lib.ListN.{length, getD, take, drop, replicate}
+use lib.ListN.{getD, take, drop, replicate}
 use lib.Dec.{eqb}
 use Rattle.columns.specs.Fields.{columns, fieldAt}
 use Rattle.columns.specs.declared.Cursor.{Cursor}
 use Rattle.columns.specs.declared.Field.{Field}
 use Rattle.columns.specs.declared.Field.the-variants.{Number, Malformed as noNumber}
-use Rattle.columns.specs.declared.End.{End}
-use Rattle.columns.specs.declared.End.the-variants.{After, Malformed}
+use Rattle.text_lines.specs.declared.End.{End}
+use Rattle.text_lines.specs.declared.End.the-variants.{After, Malformed}
 
 -- how many fields a line has: the one place of the specification that says so
 abbrev pub fieldCount : ℕ
@@ -64,11 +64,3 @@ lineAt s at = restAt fieldCount s at []
 abbrev pub LineIs : List ℕ → ℕ → List ℕ → End → Type 0
 LineIs s at ns (After c) = Small ns × (take lineLength (drop at s) ≡ lineOf ns) × (c .at ≡ at + lineLength)
 LineIs s at ns Malformed = (ms : List ℕ) → Small ms → take lineLength (drop at s) ≡ lineOf ms → ⊥
-
--- bs at the front of d, every other byte as it was
-unfoldable pub written : List ℕ → List ℕ → List ℕ
-written d bs = bs ++ drop (length bs) d
-
--- bs at the place `at` of d, every other byte as it was
-unfoldable pub put : List ℕ → ℕ → List ℕ → List ℕ
-put d at bs = take at d ++ written (drop at d) bs

@@ -1,10 +1,10 @@
 -- Writing a line at a place: the part that was lent came back with the line at its front.
 -- Assumes nothing.
 use mathlib.Core.Path.{refl}
 use Rattle.columns.proofs.Writing.{lent}
 use borrow.Author.Needs.{needs}
-use Rattle.columns.proofs.append_line.Statement.{statement}
-use Rattle.columns.proofs.append_line.Tie as tie
+use Rattle.text_lines.proofs.append_line.Statement.{statement}
+use Rattle.text_lines.proofs.append_line.Tie as tie
 
 sub-write-line : tie.Need-sub-write-line
 sub-write-line c = search needs

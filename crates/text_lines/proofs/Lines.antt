@@ -15,16 +15,17 @@ use borrow.Author.Tests.{eq-eqb, ne-eqb, eqb-true, eqb-false}
 use borrow.Rule.Slice.PartMut.{putMid}
 use Rattle.finite.proofs.Tables.{replicate-at}
 use Rattle.finite.proofs.Cases.{byBool, byEq}
 use Rattle.columns.specs.Fields.{columns, six, spells, fieldAt, FieldIs}
-use Rattle.columns.specs.Lines.{fieldCount, lineLength, fieldsOf, lineOf, Small, Reading, malformed, endAt, andThen, restAt, lineAt, LineIs, written, put}
+use Rattle.columns.specs.Writing.{written, put}
+use Rattle.text_lines.specs.Lines.{fieldCount, lineLength, fieldsOf, lineOf, Small, Reading, malformed, endAt, andThen, restAt, lineAt, LineIs}
 use Rattle.columns.specs.declared.Cursor.{Cursor}
 use Rattle.columns.specs.declared.Field.{Field}
 use Rattle.columns.specs.declared.Field.the-variants.{Number, Malformed as noNumber}
-use Rattle.columns.specs.declared.End.{End}
-use Rattle.columns.specs.declared.End.the-variants.{After, Malformed}
+use Rattle.text_lines.specs.declared.End.{End}
+use Rattle.text_lines.specs.declared.End.the-variants.{After, Malformed}
 use Rattle.columns.proofs.Columns.{length-columns}
 use Rattle.columns.proofs.Fields.{field-is, columns-spelled, spelled-columns, one-number}
 use Rattle.columns.proofs.Writing.{lent, put-nil, put-set, put-over, put-written, length-written}
 
 -- the bytes of fields and of a line
 length-fields : (k : ℕ) (ns : List ℕ) → length (fieldsOf k ns) ≡ 6 * k

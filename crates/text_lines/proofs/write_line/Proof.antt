@@ -3,12 +3,13 @@
 use Prim.Native.Nat.{_+_, _-_, _*_, _≤_}
 use mathlib.Core.Path.{_≡_, refl}
 use lib.ListN.{length}
-use Rattle.columns.specs.Lines.{fieldCount, fieldsOf, written}
+use Rattle.columns.specs.Writing.{written}
+use Rattle.text_lines.specs.Lines.{fieldCount, fieldsOf}
 use Rattle.columns.proofs.Writing.{written-nil}
-use Rattle.columns.proofs.Lines.{write-turn, write-room, write-done}
+use Rattle.text_lines.proofs.Lines.{write-turn, write-room, write-done}
 use borrow.Author.Needs.{needs}
-use Rattle.columns.proofs.write_line.Statement.{statement}
-use Rattle.columns.proofs.write_line.Tie as tie
+use Rattle.text_lines.proofs.write_line.Statement.{statement}
+use Rattle.text_lines.proofs.write_line.Tie as tie
 
 abbrev Inv-loop : tie.InvT-loop
 Inv-loop out₀ line i₀ out i = (i ≤ fieldCount) × (length out ≡ length out₀) × (out ≡ written out₀ (fieldsOf i line))

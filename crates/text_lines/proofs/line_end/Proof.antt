@@ -1,9 +1,9 @@
 -- How a line ends, by whether a line feed stands there.
 -- Assumes nothing.
-use Rattle.columns.proofs.Lines.{line-feed, no-line-feed, past-end}
+use Rattle.text_lines.proofs.Lines.{line-feed, no-line-feed, past-end}
 use borrow.Author.Needs.{needs}
-use Rattle.columns.proofs.line_end.Statement.{statement}
-use Rattle.columns.proofs.line_end.Tie as tie
+use Rattle.text_lines.proofs.line_end.Statement.{statement}
+use Rattle.text_lines.proofs.line_end.Tie as tie
 
 returns : tie.Need-returns
 returns c = past-end _ _ (search needs)

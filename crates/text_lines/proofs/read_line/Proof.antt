@@ -3,11 +3,11 @@
 use Prim.Native.Nat.{_-_, _≤_}
 use mathlib.Core.Path.{_≡_, refl}
 use lib.ListN.{length, length-set}
-use Rattle.columns.specs.Lines.{fieldCount}
-use Rattle.columns.proofs.Lines.{Read, read-start, read-turn, read-stop, read-unended, read-done}
+use Rattle.text_lines.specs.Lines.{fieldCount}
+use Rattle.text_lines.proofs.Lines.{Read, read-start, read-turn, read-stop, read-unended, read-done}
 use borrow.Author.Needs.{needs}
-use Rattle.columns.proofs.read_line.Statement.{statement}
-use Rattle.columns.proofs.read_line.Tie as tie
+use Rattle.text_lines.proofs.read_line.Statement.{statement}
+use Rattle.text_lines.proofs.read_line.Tie as tie
 
 abbrev Inv-loop : tie.InvT-loop
 Inv-loop s numbers₀ place c₀ i₀ numbers c i = (i ≤ fieldCount) × (length numbers ≡ length numbers₀) × Read s (c₀ .at) numbers₀ place (c .at) i numbers

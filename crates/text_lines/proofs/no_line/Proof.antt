@@ -4,11 +4,11 @@ use Prim.Native.Nat.{_-_, _≤_}
 use mathlib.Core.Path.{_≡_, refl}
 use lib.ListN.{length, replicate, length-set}
 use lib.Seq.{paste, paste-zero}
-use Rattle.columns.specs.Lines.{fieldCount, malformed}
+use Rattle.text_lines.specs.Lines.{fieldCount, malformed}
 use Rattle.columns.proofs.Writing.{repeat-turn, paste-done}
 use borrow.Author.Needs.{needs}
-use Rattle.columns.proofs.no_line.Statement.{statement}
-use Rattle.columns.proofs.no_line.Tie as tie
+use Rattle.text_lines.proofs.no_line.Statement.{statement}
+use Rattle.text_lines.proofs.no_line.Tie as tie
 
 abbrev Inv-loop : tie.InvT-loop
 Inv-loop numbers₀ place i₀ numbers i = (i ≤ fieldCount) × (length numbers ≡ length numbers₀) × (numbers ≡ paste numbers₀ place (replicate fieldCount 0) i)
