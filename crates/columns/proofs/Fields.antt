@@ -2,7 +2,7 @@
 -- same columns are the same, and `fieldAt` answers a number just where the six bytes spell it.
 -- Assumes nothing.
 use Prim.Native.Nat.{ℕ, min, _+_, _-_, _*_, _/_, _%_, _≤_, _<_}
-use mathlib.Core.Path.{_≡_, refl, sym, ap, _∙_}
+use mathlib.Core.Path.{_≡_, refl, sym, ap, _∙_, subst}
 use mathlib.Core.Bool.{Bool, true, false, cond}
 use mathlib.Core.List.{List}
 use lib.ListN.{length, getD, length-take, length-drop}
@@ -83,6 +83,10 @@ field-is s at = go (spells (six s at) (worthOf (six s at) 6)) refl
         → FieldIs s at (cond b (Number (worthOf (six s at) 6) (record { at = at + 6 })) Malformed)
     go true e = (worth-bound (six s at), e, refl)
     go false e = λ n h t. clash (rw (spelled-worth (six s at) n h t) t) e
+
+-- for the reader: what it returns, computed and by cases
+pub field-told : (s : List ℕ) (at : ℕ) {r : Field} → r ≡ fieldAt s at → (r ≡ fieldAt s at) × FieldIs s at r
+field-told s at {r} e = (e, subst (λ (x : Field). FieldIs s at x) (sym e) (field-is s at))
 
 pub only-field : (s : List ℕ) (at : ℕ) (r : Field) → FieldIs s at r → r ≡ fieldAt s at
 only-field s at (Number n c) f = ap (λ (k : ℕ). Number n (record { at = k })) (f .2) ∙ sym (found s at n (f .0) (f .1))

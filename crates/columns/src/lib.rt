@@ -5,7 +5,7 @@ ghost use mathlib.Core.Logic.{_↔_};
 ghost use mathlib.Core.List.{[]};
 ghost use Prim.Native.Nat.{_+_, _*_, _≤_, _<_};
 ghost use lib.ListN.{length, drop, replicate};
-ghost use Rattle.columns.specs.Fields.{placeValue, columnOf, columns, fieldAt};
+ghost use Rattle.columns.specs.Fields.{placeValue, columnOf, columns, fieldAt, FieldIs};
 ghost use Rattle.columns.specs.Scans.{frontCount, Blank, twoSpaces, digit, opening, fitting};
 ghost use Rattle.columns.specs.Writing.{written, put};
 
@@ -143,7 +143,7 @@ fn scan(s: &[u8], at: usize, first: usize) -> Field
 impl Cursor {
     // The number in the six columns at the cursor, and the cursor after them. What is below 100, and below 10,000, is told by the spaces before it.
     pub fn field(self, s: &[u8]) -> Field
-        ensures { λ r. ⌜ r ≡ fieldAt (now (s .entry)) (self .at) ⌝ }
+        ensures { λ r. ⌜ (r ≡ fieldAt (now (s .entry)) (self .at)) × FieldIs (now (s .entry)) (self .at) r ⌝ }
     {
         let at = self.at;
         if s.len() < 6 {

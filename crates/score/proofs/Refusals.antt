@@ -38,7 +38,7 @@ buffers-tell bytes words = one-more (tell 1 (omega arith) (under-iff words least
 
 text-tells : (s : List ℕ) → AllTell (textRefusals s)
 unfolding textRefusals
-text-tells s = one-more (tell 3 (omega arith) (reading-3 s)) (λ _. one-more (tell 4 (omega arith) (reading-4 s)) (λ _. one-more (tell 5 (omega arith) (reading-5 s)) (λ _. no-more)))
+text-tells s = one-more (tell 3 (omega arith) (reading-3 s)) (λ f. one-more (tell 4 (omega arith) (reading-4 s f)) (λ _. one-more (tell 5 (omega arith) (reading-5 s f)) (λ _. no-more)))
 
 -- 11 asks for the components, which a sound network has
 module _ (X : Contents) (o : NoOthers (X .nodes)) where

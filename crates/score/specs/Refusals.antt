@@ -4,8 +4,7 @@ use mathlib.Core.List.{List, [], _∷_, _++_}
 use Prim.Native.Nat.{ℕ, _<_}
 use Rattle.finite.specs.Tests.{under}
 use Rattle.finite.specs.Refusals.{Refusal, verdict}
-use Rattle.layout.specs.Headers.{WithinLimits}
-use Rattle.sheet.specs.Sheets.{headerIn, nodes, genes, Line, WellFormed, refusal3, refusal4, refusal5}
+use Rattle.sheet.specs.Sheets.{refusal3, refusal4, refusal5, Refusal3, Refusal4, Refusal5}
 use Rattle.network.specs.Refusals.{networkRefusals}
 use Rattle.components.specs.Refusals.{componentRefusals}
 use Rattle.gene_tree.specs.Refusals.{geneRefusals}
@@ -23,9 +22,9 @@ bufferRefusals bytes words =
 -- "The typist"
 unfoldable pub textRefusals : List ℕ → List Refusal
 textRefusals s =
-    record { number = 3; test = refusal3 s; condition = (ns : List ℕ) → ¬ (Line s 0 ns) }
-    ∷ record { number = 4; test = refusal4 s; condition = ¬ (WithinLimits (headerIn s)) }
-    ∷ record { number = 5; test = refusal5 s; condition = ¬ (WellFormed s (nodes s) (genes s)) }
+    record { number = 3; test = refusal3 s; condition = Refusal3 s }
+    ∷ record { number = 4; test = refusal4 s; condition = Refusal4 s }
+    ∷ record { number = 5; test = refusal5 s; condition = Refusal5 s }
     ∷ []
 
 -- "The network's curator", 6 to 10 and 11, and "The gene tree's curator", 12 and 13

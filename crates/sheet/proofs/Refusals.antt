@@ -2,8 +2,8 @@
 -- (`line-is` of columns), and a line has only one reading (`same-cells`), so each test over the lines is the statement about each line.
 -- Assumes nothing.
 use Prim.Native.Nat.{ℕ, _+_, _*_, _≤_, _<_}
-use mathlib.Core.Path.{_≡_, refl, sym, _∙_}
-use mathlib.Core.Logic.{_↔_}
+use mathlib.Core.Path.{_≡_, refl, sym, _∙_, subst}
+use mathlib.Core.Logic.{_↔_, inl, inr}
 use mathlib.Core.Bool.{Bool, true, false, _&&_}
 use mathlib.Core.List.{List}
 use native.Mathlib.Omega.{arith}
@@ -14,11 +14,13 @@ use Rattle.finite.proofs.Cases.{byBool, clash}
 use Rattle.finite.proofs.Tests.{is-same, same-is, and-l, and-r, not-true, not-false, not-yes}
 use Rattle.finite.proofs.Every.{every-at, is-every, every-same}
 use Rattle.layout.specs.Headers.{WithinLimits}
+use Rattle.layout.specs.declared.Header.{Header}
 use Rattle.text_lines.specs.Lines.{fieldCount, lineLength, lineAt, LineIs}
 use Rattle.text_lines.specs.declared.End.{End}
 use Rattle.text_lines.specs.declared.End.the-variants.{After, Malformed}
 use Rattle.text_lines.proofs.Lines.{line-is, small-read, one-line}
-use Rattle.sheet.specs.Sheets.{found, lineNo, isLine, cell, headerIn, nodes, genes, limits, refusal3, refusal4, whole, nodeLine, geneLine, refusal5, Line, NodeLine, GeneLine, WellFormed, cellsOf, nodeNumbered, geneNumbered}
+use Rattle.sheet.specs.Sheets.{found, lineNo, isLine, cell, headerIn, headerBy, headerOf, nodes, genes, limits, Refusal3, Refusal4, Refusal5, HeadedIs, refusal3, refusal4, whole, nodeLine, geneLine, refusal5, Line, NodeLine, GeneLine, WellFormed, cellsOf, nodeNumbered, geneNumbered}
+use Rattle.sheet.specs.declared.Headed.{Headed}
 use Rattle.sheet.proofs.Limits.{limits-is, is-limits}
 use Rattle.sheet.proofs.Reading.{node-numbered, gene-numbered}
 
@@ -46,20 +48,41 @@ unfolding cell
 same-cells s i ns l k h = let f = line-found s i (found-line s i ns l) in
     one-line (lineNo s i .line) ns (f .small) (l .small) (sym (f .bytes) ∙ l .bytes) k h
 
+-- the header by any reading of its line
+pub header-same : (s ns : List ℕ) → Line s 0 ns → headerIn s ≡ headerBy ns
+unfolding cell
+header-same s ns l = rw (
+  same-cells s 0 ns l 0 (omega arith),
+  same-cells s 0 ns l 1 (omega arith),
+  same-cells s 0 ns l 2 (omega arith),
+  same-cells s 0 ns l 3 (omega arith),
+  same-cells s 0 ns l 4 (omega arith),
+)
+
 -- 3: no numbers have the first bytes for their line
-pub reading-3 : (s : List ℕ) → (refusal3 s ≡ true) ↔ ((ns : List ℕ) → Line s 0 ns → ⊥)
+pub reading-3 : (s : List ℕ) → (refusal3 s ≡ true) ↔ Refusal3 s
 unfolding refusal3
 reading-3 s = (
   (λ t ns l. clash (found-line s 0 ns l) (not-true (isLine s 0) t)),
   λ none. not-yes (isLine s 0) (byBool (isLine s 0) (λ t. absurd (none _ (line-found s 0 t))) (λ t. t)),
 )
 
+-- where 3 does not apply, the first line is there
+pub header-line : (s : List ℕ) → refusal3 s ≡ false → Line s 0 (lineNo s 0 .line)
+unfolding refusal3
+header-line s f = line-found s 0 (not-false (isLine s 0) f)
+
 -- 4: the header is beyond the limits
-pub reading-4 : (s : List ℕ) → (refusal4 s ≡ true) ↔ (WithinLimits (headerIn s) → ⊥)
+pub reading-4 : (s : List ℕ) → refusal3 s ≡ false → (refusal4 s ≡ true) ↔ Refusal4 s
 unfolding refusal4
-reading-4 s = (
-  (λ t l. clash (sym (is-limits _ l)) (not-true (limits (lineNo s 0 .line)) t)),
-  λ none. not-yes (limits (lineNo s 0 .line)) (byBool (limits (lineNo s 0 .line)) (λ t. absurd (none (limits-is _ t))) (λ t. t)),
+reading-4 s f = (
+  (λ t. record {
+    numbers = lineNo s 0 .line;
+    line = header-line s f;
+    beyond = λ l. clash (sym (is-limits _ l)) (not-true (limits (lineNo s 0 .line)) t);
+  }),
+  λ r. not-yes (limits (lineNo s 0 .line)) (byBool (limits (lineNo s 0 .line))
+      (λ t. absurd (r .beyond (subst (λ (h : Header). WithinLimits h) (header-same s (r .numbers) (r .line)) (limits-is _ t)))) (λ t. t)),
 )
 
 -- a node line and a gene line, as tests and as statements
@@ -117,8 +140,27 @@ formed-well s w = rw (
   is-every (genes s) (geneLine s (nodes s)) (λ g l u. line-gene s (nodes s) g (w .gene g l u)),
 )
 
-pub reading-5 : (s : List ℕ) → (refusal5 s ≡ true) ↔ (WellFormed s (nodes s) (genes s) → ⊥)
-reading-5 s = ((λ t w. clash t (formed-well s w)), λ none. byBool (refusal5 s) (λ t. t) (λ f. absurd (none (well-formed s f))))
+pub reading-5 : (s : List ℕ) → refusal3 s ≡ false → (refusal5 s ≡ true) ↔ Refusal5 s
+reading-5 s f = (
+  (λ t. record { numbers = lineNo s 0 .line; line = header-line s f; amiss = λ w. clash t (formed-well s w) }),
+  λ r. byBool (refusal5 s) (λ t. t) (λ e. absurd (r .amiss (subst (λ (h : Header). WellFormed s (h .nodes) (h .genes)) (header-same s (r .numbers) (r .line)) (well-formed s e)))),
+)
+
+pub within-limits : (s : List ℕ) → refusal4 s ≡ false → WithinLimits (headerIn s)
+unfolding refusal4
+within-limits s e = limits-is _ (not-false _ e)
+
+-- what the header comes to, by cases
+pub headed-is : (s : List ℕ) → HeadedIs s (headerOf s)
+unfolding headerOf
+headed-is s = byBool (refusal3 s)
+    (λ t. rw t (inl (refl, reading-3 s .0 t)))
+    (λ f. rw f (byBool (refusal4 s)
+    (λ t. rw t (inr (refl, reading-4 s f .0 t)))
+    (λ e. rw e (record { numbers = lineNo s 0 .line; line = header-line s f; header = refl; limits = within-limits s e }))))
+
+pub headed-told : (s : List ℕ) {r : Headed} → r ≡ headerOf s → (r ≡ headerOf s) × HeadedIs s r
+headed-told s {r} e = (e, subst (λ (x : Headed). HeadedIs s x) (sym e) (headed-is s))
 
 -- what the cells of 1 + n + m lines tell of 5
 module _ (s : List ℕ) (few-nodes : nodes s ≤ 127) (few-genes : genes s ≤ 127) where

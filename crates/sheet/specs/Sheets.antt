@@ -4,6 +4,7 @@ use Prim.Native.Nat.{ℕ, zero, suc, _+_, _*_, _≤_}
 use mathlib.Core.Bool.{Bool, true, false, cond, _&&_, not}
 use mathlib.Core.List.{List}
 use mathlib.Core.Path.{_≡_}
+use mathlib.Core.Logic.{_⊎_}
 use lib.ListN.{length, getD, take, drop, replicate}
 use Rattle.finite.specs.Tests.{same, under}
 use Rattle.finite.specs.Range.{every}
@@ -13,6 +14,7 @@ use Rattle.text_lines.specs.Lines.{fieldCount, lineLength, Reading, lineAt, lin
 use Rattle.text_lines.specs.declared.End.{End}
 use Rattle.text_lines.specs.declared.End.the-variants.{After, Malformed}
 use Rattle.layout.specs.Lines.{cellCount}
+use Rattle.layout.specs.Headers.{WithinLimits}
 use Rattle.layout.specs.declared.Header.{Header}
 use Rattle.sheet.specs.declared.Headed.{Headed}
 use Rattle.sheet.specs.declared.Headed.the-variants.{Header as accepted, Refused}
@@ -106,6 +108,33 @@ pub record WellFormed (s : List ℕ) (n m : ℕ) : Type 0 where
   pub total : length s ≡ lineLength * (1 + n + m)
   pub node : (v : ℕ) → 1 ≤ v → v ≤ n → NodeLine s v
   pub gene : (g : ℕ) → 1 ≤ g → g ≤ m → GeneLine s n g
+
+-- 3: "no whole header line, or a field or line feed in it malformed"
+abbrev pub Refusal3 : List ℕ → Type 0
+Refusal3 s = (ns : List ℕ) → ¬ (Line s 0 ns)
+
+-- 4: a header line is there, and "n, m or a cost beyond its limits"
+pub record Refusal4 (s : List ℕ) : Type 0 where
+  pub numbers : List ℕ
+  pub line : Line s 0 numbers
+  pub beyond : ¬ (WithinLimits (headerBy numbers))
+
+-- 5: a header line is there, and the sheet is not formed as its n and m say
+pub record Refusal5 (s : List ℕ) : Type 0 where
+  pub numbers : List ℕ
+  pub line : Line s 0 numbers
+  pub amiss : ¬ (WellFormed s (at numbers 0) (at numbers 1))
+
+-- what each case of the header's answer says
+pub record IsHeader (s : List ℕ) (h : Header) : Type 0 where
+  pub numbers : List ℕ
+  pub line : Line s 0 numbers
+  pub header : h ≡ headerBy numbers
+  pub limits : WithinLimits h
+
+abbrev pub HeadedIs : List ℕ → Headed → Type 0
+HeadedIs s (accepted h) = IsHeader s h
+HeadedIs s (Refused k) = ((k ≡ 3) × Refusal3 s) ⊎ ((k ≡ 4) × Refusal4 s)
 
 -- the numbers of the first k lines, line by line, put over the front of d
 unfoldable pub linesPut : List ℕ → List ℕ → ℕ → List ℕ

@@ -10,7 +10,7 @@ ghost use lib.ListN.{length};
 ghost use Rattle.finite.specs.Tests.{same};
 ghost use Rattle.finite.specs.Range.{every};
 ghost use Rattle.text_lines.specs.Lines.{fieldCount};
-ghost use Rattle.sheet.specs.Sheets.{found, allLines, linesPut, headerOf, limits, whole, cellsOf, nodeNumbered, geneFieldsFit, geneNumbered};
+ghost use Rattle.sheet.specs.Sheets.{found, allLines, linesPut, headerOf, HeadedIs, limits, whole, cellsOf, nodeNumbered, geneFieldsFit, geneNumbered};
 
 // A header within the limits, or the number of its refusal.
 pub enum Headed {
@@ -76,7 +76,7 @@ fn within_limits(line: &[u32; text_lines::FIELDS]) -> bool
 
 // The header: 3 where there is no header line, 4 where it is beyond the limits.
 pub fn read_header(s: &[u8]) -> Headed
-    ensures { λ r. ⌜ r ≡ headerOf (now (s .entry)) ⌝ }
+    ensures { λ r. ⌜ (r ≡ headerOf (now (s .entry))) × HeadedIs (now (s .entry)) r ⌝ }
 {
     let mut line = [0u32; text_lines::FIELDS];
     if !read_lines(s, 1, &mut line) {

@@ -2,7 +2,7 @@
 -- (`rest-is`), each of which is a number's columns or is malformed. Then the turns of the loops that read and write a line.
 -- Assumes nothing.
 use Prim.Native.Nat.{ℕ, zero, suc, _+_, _-_, _*_, _≤_, _<_}
-use mathlib.Core.Path.{_≡_, refl, sym, ap, _∙_}
+use mathlib.Core.Path.{_≡_, refl, sym, ap, _∙_, subst}
 use mathlib.Core.Bool.{true, false}
 use mathlib.Core.List.{List, [], _∷_, _++_, append-assoc, append-nil}
 use lib.ListN.{length, getD, take, drop, set, replicate, length-append, List·getD-eq-default}
@@ -17,7 +17,7 @@ use Rattle.finite.proofs.Tables.{replicate-at}
 use Rattle.finite.proofs.Cases.{byBool, byEq}
 use Rattle.columns.specs.Fields.{columns, six, spells, fieldAt, FieldIs}
 use Rattle.columns.specs.Writing.{written, put}
-use Rattle.text_lines.specs.Lines.{fieldCount, lineLength, fieldsOf, lineOf, Small, Reading, malformed, endAt, andThen, restAt, lineAt, LineIs}
+use Rattle.text_lines.specs.Lines.{fieldCount, lineLength, fieldsOf, lineOf, Small, Reading, malformed, endAt, andThen, restAt, lineAt, LineIs, LineRead}
 use Rattle.columns.specs.declared.Cursor.{Cursor}
 use Rattle.columns.specs.declared.Field.{Field}
 use Rattle.columns.specs.declared.Field.the-variants.{Number, Malformed as noNumber}
@@ -296,3 +296,7 @@ small-read s at = go (lineAt s at .end) refl (line-is s at)
     go : (d : End) → lineAt s at .end ≡ d → LineIs s at (lineAt s at .line) d → Small (lineAt s at .line)
     go (After c) e h = h .0
     go Malformed e h = record { small = λ i. omega (arith, malformed-zero s at i e) }
+
+-- for the reader: what it returns, computed and by cases
+pub line-told : (s : List ℕ) (at place : ℕ) (d e : List ℕ) {r : End} → (r ≡ lineAt s at .end) × (e ≡ put d place (lineAt s at .line)) → LineRead s at place d e r
+line-told s at place d e {r} p = record { end = p .0; numbers = p .1; says = subst (λ (x : End). LineIs s at (lineAt s at .line) x) (sym (p .0)) (line-is s at) }

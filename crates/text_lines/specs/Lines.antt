@@ -7,6 +7,7 @@ use mathlib.Core.List.{List, [], _∷_, _++_}
 use lib.ListN.{getD, take, drop, replicate}
 use lib.Dec.{eqb}
 use Rattle.columns.specs.Fields.{columns, fieldAt}
+use Rattle.columns.specs.Writing.{put}
 use Rattle.columns.specs.declared.Cursor.{Cursor}
 use Rattle.columns.specs.declared.Field.{Field}
 use Rattle.columns.specs.declared.Field.the-variants.{Number, Malformed as noNumber}
@@ -64,3 +65,9 @@ lineAt s at = restAt fieldCount s at []
 abbrev pub LineIs : List ℕ → ℕ → List ℕ → End → Type 0
 LineIs s at ns (After c) = Small ns × (take lineLength (drop at s) ≡ lineOf ns) × (c .at ≡ at + lineLength)
 LineIs s at ns Malformed = (ms : List ℕ) → Small ms → take lineLength (drop at s) ≡ lineOf ms → ⊥
+
+-- the line at a cursor is read: its end, and its numbers over those from the place on, which were d and are e
+pub record LineRead (s : List ℕ) (at place : ℕ) (d e : List ℕ) (r : End) : Type 0 where
+  pub end : r ≡ lineAt s at .end
+  pub numbers : e ≡ put d place (lineAt s at .line)
+  pub says : LineIs s at (lineAt s at .line) r

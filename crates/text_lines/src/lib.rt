@@ -6,7 +6,7 @@ ghost use mathlib.Core.List.{[]};
 ghost use Prim.Native.Nat.{_+_, _*_, _≤_};
 ghost use lib.ListN.{length};
 ghost use Rattle.columns.specs.Writing.{written, put};
-ghost use Rattle.text_lines.specs.Lines.{fieldCount, lineOf, lineLength, lineAt, endAt, malformed, Small};
+ghost use Rattle.text_lines.specs.Lines.{fieldCount, lineOf, lineLength, lineAt, endAt, malformed, Small, LineRead};
 
 // How many fields a line has: the one place in the code that says so.
 pub const FIELDS: usize = 5;
@@ -50,7 +50,7 @@ fn line_end(s: &[u8], c: Cursor) -> End
 // The line at a cursor, field by field from the left, its numbers put at a place of what is lent; and the cursor after it.
 pub fn read_line(s: &[u8], start: Cursor, numbers: &mut [u32], place: usize) -> End
     requires { ⌜ place + fieldCount ≤ length (now numbers) ⌝ }
-    ensures { λ r. ⌜ (r ≡ lineAt (now (s .entry)) (start .at) .end) × (now (numbers .exit) ≡ put (now (numbers .entry)) place (lineAt (now (s .entry)) (start .at) .line)) ⌝ }
+    ensures { λ r. ⌜ LineRead (now (s .entry)) (start .at) place (now (numbers .entry)) (now (numbers .exit)) r ⌝ }
 {
     let mut c = start;
     let mut i = 0;

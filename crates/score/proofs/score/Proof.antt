@@ -26,7 +26,7 @@ score-lines-requires : tie.Need-score-lines-requires
 score-lines-requires c κs = record { header = sym (c .before .before .before .headed2 .given .1) ∙ c .before .before .before .before .before .read-header .ensures; room = search needs; space = search needs }
 
 returns-3 : tie.Need-returns-3
-returns-3 c = promise _ _ _ _ _ _ (header-outcome _ _ _ _ (sym (c .before .headed .given .1) ∙ c .before .before .before .read-header .ensures) (search needs) (search needs))
+returns-3 c = promise _ _ _ _ _ _ (header-outcome _ _ _ _ (sym (c .before .headed .given .1) ∙ c .before .before .before .read-header .ensures .0) (search needs) (search needs))
 
 same-length : tie.Need-same-length
 same-length c = search needs

@@ -2,6 +2,7 @@
 -- Assumes nothing.
 use native.Mathlib.Omega.{arith}
 use Rattle.sheet.proofs.Reading.{within, no-header, header-beyond, header-within}
+use Rattle.sheet.proofs.Refusals.{headed-told}
 use borrow.Author.Needs.{needs}
 use Rattle.sheet.proofs.read_header.Statement.{statement}
 use Rattle.sheet.proofs.read_header.Tie as tie
@@ -13,13 +14,13 @@ read-lines-requires : tie.Need-read-lines-requires
 read-lines-requires c κs = search needs
 
 returns : tie.Need-returns
-returns c = no-header _ _ (c .before .before .read-lines .ensures .1) _ (c .before .before .read-lines .ensures .0) (c .if1 .taken)
+returns c = headed-told _ (no-header _ _ (c .before .before .read-lines .ensures .1) _ (c .before .before .read-lines .ensures .0) (c .if1 .taken))
 
 within-limits-requires : tie.Need-within-limits-requires
 within-limits-requires c κs = search needs
 
 returns-2 : tie.Need-returns-2
-returns-2 c = header-beyond _ _ (c .before .before .before .before .before .read-lines .ensures .1) _ (c .before .before .before .before .before .read-lines .ensures .0) (c .before .before .before .if1 .left) _ (c .before .within-limits .ensures) (c .if2 .taken)
+returns-2 c = headed-told _ (header-beyond _ _ (c .before .before .before .before .before .read-lines .ensures .1) _ (c .before .before .before .before .before .read-lines .ensures .0) (c .before .before .before .if1 .left) _ (c .before .within-limits .ensures) (c .if2 .taken))
 
 array-read-t10 : tie.Need-array-read-t10
 array-read-t10 c = search needs
@@ -43,7 +44,7 @@ array-read-t24 : tie.Need-array-read-t24
 array-read-t24 c = search needs
 
 returns-3 : tie.Need-returns-3
-returns-3 c = header-within _ _ (c .before .before .before .before .before .read-lines .ensures .1) _ (c .before .before .before .before .before .read-lines .ensures .0) (c .before .before .before .if1 .left) _ (c .before .within-limits .ensures) (c .if2 .left)
+returns-3 c = headed-told _ (header-within _ _ (c .before .before .before .before .before .read-lines .ensures .1) _ (c .before .before .before .before .before .read-lines .ensures .0) (c .before .before .before .if1 .left) _ (c .before .within-limits .ensures) (c .if2 .left))
 
 pub read-header-spec : {M : Type 1} → statement M
 read-header-spec =

@@ -40,8 +40,8 @@ loop-again : tie.Need-loop-again Inv-loop μ-loop
 loop-again c =
     let l = c .before .before .before .before .before .before .loop in
     let a = c .before .before .before .before .before .before .before .before .before .args in
-    let e = lines-turn (a .numbers .now) (a .s .now) _ _ (l .i) (l .inv .2) (c .before .before .before .read-line .ensures .1) in
-    (search needs, ap length e ∙ length-lines (a .numbers .now) (a .s .now) (l .i + 1) (search needs), e, all-turn _ (l .i) _ _ _ (l .inv .3) (c .before .before .before .read-line .ensures .0) (c .and-line .ensures))
+    let e = lines-turn (a .numbers .now) (a .s .now) _ _ (l .i) (l .inv .2) (c .before .before .before .read-line .ensures .numbers) in
+    (search needs, ap length e ∙ length-lines (a .numbers .now) (a .s .now) (l .i + 1) (search needs), e, all-turn _ (l .i) _ _ _ (l .inv .3) (c .before .before .before .read-line .ensures .end) (c .and-line .ensures))
 
 same-length : tie.Need-same-length Inv-loop μ-loop
 same-length c = search needs

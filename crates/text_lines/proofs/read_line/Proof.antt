@@ -4,7 +4,7 @@ use Prim.Native.Nat.{_-_, _≤_}
 use mathlib.Core.Path.{_≡_, refl}
 use lib.ListN.{length, length-set}
 use Rattle.text_lines.specs.Lines.{fieldCount}
-use Rattle.text_lines.proofs.Lines.{Read, read-start, read-turn, read-stop, read-unended, read-done}
+use Rattle.text_lines.proofs.Lines.{Read, read-start, read-turn, read-stop, read-unended, read-done, line-told}
 use borrow.Author.Needs.{needs}
 use Rattle.text_lines.proofs.read_line.Statement.{statement}
 use Rattle.text_lines.proofs.read_line.Tie as tie
@@ -36,7 +36,7 @@ same-length c = search needs
 returns : tie.Need-returns Inv-loop μ-loop
 returns c =
     let l = c .before .before .before .before .before .before .before .before .loop in
-    read-stop (search needs) (l .inv .2) _ _ _ (search needs) (c .before .before .before .before .before .before .field .ensures) (c .before .before .before .before .enum-told .given .1) (c .before .before .no-line .ensures .0) (c .before .before .no-line .ensures .1)
+    line-told _ _ _ _ _ (read-stop (search needs) (l .inv .2) _ _ _ (search needs) (c .before .before .before .before .before .before .field .ensures .0) (c .before .before .before .before .enum-told .given .1) (c .before .before .no-line .ensures .0) (c .before .before .no-line .ensures .1))
 
 add-numbers : tie.Need-add-numbers Inv-loop μ-loop
 add-numbers c = search needs
@@ -56,7 +56,7 @@ loop-less c = search needs
 loop-again : tie.Need-loop-again Inv-loop μ-loop
 loop-again c =
     let l = c .before .before .before .before .before .loop in
-    (search needs, simp length-set (l .inv .1), read-turn (search needs) (l .inv .2) _ _ _ (search needs) (c .before .before .before .field .ensures) (c .before .n .given .1))
+    (search needs, simp length-set (l .inv .1), read-turn (search needs) (l .inv .2) _ _ _ (search needs) (c .before .before .before .field .ensures .0) (c .before .n .given .1))
 
 line-end-requires : tie.Need-line-end-requires Inv-loop μ-loop
 line-end-requires c κs = search needs
@@ -76,7 +76,7 @@ same-length-2 c = search needs
 returns-2 : tie.Need-returns-2 Inv-loop μ-loop
 returns-2 c =
     let l = c .before .before .before .before .before .before .before .before .loop in
-    read-unended (search needs) (l .inv .2) _ _ _ (search needs) (search needs) (c .before .before .before .before .before .before .line-end .ensures) (c .before .before .before .before .enum-told2 .given .1) (c .before .before .no-line2 .ensures .0) (c .before .before .no-line2 .ensures .1)
+    line-told _ _ _ _ _ (read-unended (search needs) (l .inv .2) _ _ _ (search needs) (search needs) (c .before .before .before .before .before .before .line-end .ensures) (c .before .before .before .before .enum-told2 .given .1) (c .before .before .no-line2 .ensures .0) (c .before .before .no-line2 .ensures .1))
 
 same-length-3 : tie.Need-same-length-3 Inv-loop μ-loop
 same-length-3 c = search needs
@@ -84,7 +84,7 @@ same-length-3 c = search needs
 returns-3 : tie.Need-returns-3 Inv-loop μ-loop
 returns-3 c =
     let l = c .before .before .before .before .before .loop in
-    read-done (search needs) (l .inv .2) _ _ (search needs) (search needs) (c .before .before .before .line-end .ensures) (c .before .after .given .1)
+    line-told _ _ _ _ _ (read-done (search needs) (l .inv .2) _ _ (search needs) (search needs) (c .before .before .before .line-end .ensures) (c .before .after .given .1))
 
 pub read-line-spec : {M : Type 1} → statement M
 read-line-spec =
