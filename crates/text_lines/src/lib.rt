@@ -3,7 +3,7 @@ use columns::Cursor;
 use columns::Field;
 ghost use mathlib.Core.Path.{_≡_};
 ghost use mathlib.Core.List.{[]};
-ghost use Prim.Native.Nat.{_+_, _*_, _≤_};
+ghost use Prim.Native.Nat.{_+_, _≤_};
 ghost use lib.ListN.{length};
 ghost use Rattle.columns.specs.Writing.{written, put};
 ghost use Rattle.text_lines.specs.Lines.{fieldCount, lineOf, lineLength, lineAt, endAt, malformed, Small, LineRead};

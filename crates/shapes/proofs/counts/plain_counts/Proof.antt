@@ -6,6 +6,7 @@ use Rattle.tables.specs.Columns.{Kept}
 use Rattle.tables.proofs.Columns.{kept-none}
 use Rattle.tables.proofs.Counts.{Counted, counted-start, counted-turn, counted-few, counted-done, kept-raised}
 use Rattle.layout.specs.Lines.{nodesIn}
+use Rattle.shapes.specs.Counts.{plainsColumn}
 use Rattle.shapes.specs.ShortForms.{plainParentAt}
 use Rattle.shapes.proofs.AsRead.{plain-read}
 use borrow.Author.Needs.{needs}
@@ -14,7 +15,7 @@ use Rattle.shapes.proofs.counts.plain_counts.Statement.{statement}
 use Rattle.shapes.proofs.counts.plain_counts.Tie as tie
 
 abbrev Inv-loop : tie.InvT-loop
-Inv-loop n lines counts₀ v₀ counts v = (v ≤ n) × Counted n (plainParentAt (nodesIn n lines)) 2 v counts × Kept 2 counts₀ counts
+Inv-loop n lines counts₀ v₀ counts v = (v ≤ n) × Counted n (plainParentAt (nodesIn n lines)) plainsColumn v counts × Kept plainsColumn counts₀ counts
 
 abbrev μ-loop : tie.MeasureT-loop
 μ-loop n lines counts₀ v₀ counts v = n - v
