@@ -23,7 +23,7 @@ enum-known-headed-2 : tie.Need-enum-known-headed-2
 enum-known-headed-2 c = search needs
 
 score-lines-requires : tie.Need-score-lines-requires
-score-lines-requires c κs = record { header = sym (c .before .before .before .headed2 .given .1) ∙ c .before .before .before .before .before .read-header .ensures; room = search needs; space = search needs }
+score-lines-requires c κs = record { header = sym (c .before .before .before .headed2 .given .1) ∙ c .before .before .before .before .before .read-header .ensures .0; room = search needs; space = search needs }
 
 returns-3 : tie.Need-returns-3
 returns-3 c = promise _ _ _ _ _ _ (header-outcome _ _ _ _ (sym (c .before .headed .given .1) ∙ c .before .before .before .read-header .ensures .0) (search needs) (search needs))
