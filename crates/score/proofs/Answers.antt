@@ -51,7 +51,7 @@ unfolding refusal
 refusal-small s b w = verdict-low 13 (refusals s b w) (all-low s b w)
 
 -- what the promise says of an answer in hand
-says-of : {s d e u t : List ℕ} {r a : Answer} → Promise s d e u t r → r ≡ a → Says s d e u t a
+pub says-of : {s d e u t : List ℕ} {r a : Answer} → Promise s d e u t r → r ≡ a → Says s d e u t a
 says-of {s} {d} {e} {u} {t} p q = subst (λ (x : Answer). Says s d e u t x) q (p .says)
 
 pub refused-small : {s d e u t : List ℕ} {r : Answer} {k : ℕ} → Promise s d e u t r → r ≡ Refused k → k ≤ 13

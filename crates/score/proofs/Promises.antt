@@ -19,13 +19,14 @@ use Rattle.sheet.proofs.Limits.{limits-is}
 use Rattle.network.specs.Accepted.{NoOthers}
 use Rattle.acceptance.specs.Admitted.{Admitted}
 use Rattle.score.specs.declared.Answer.{Answer}
+use Rattle.score.specs.declared.Answer.the-variants.{Report, Refused}
 use Rattle.family.specs.Families.{Contents}
 use Rattle.family.specs.Reports.{reportIn, Reported}
 use Rattle.family.proofs.Reported.{is-reported, report-least}
 use Rattle.score.specs.Contents.{nodeLines, geneLines, contentsOf}
 use Rattle.score.specs.Refusals.{refusals, refusal}
 use Rattle.score.specs.Outcome.{resultBy, scratchBy, Outcome, IsRefused, IsReport, Says, Promise}
-use Rattle.score.proofs.Answers.{refused-answer, report-answer, refusal-small}
+use Rattle.score.proofs.Answers.{refused-answer, report-answer, refusal-small, says-of}
 use Rattle.score.proofs.Refusals.{all-tells, text-passes, curators-pass, none-passes}
 
 -- a number that is no node has no parents
@@ -117,3 +118,10 @@ promise s d e u t r o =
       scores = λ n. o .answer ∙ report-answer (refusal s b w) (contentsOf s) (of-none s b w n);
       outcome = o;
     }
+
+-- the verdict by an answer in hand
+pub verdict-report : {s d e u t : List ℕ} {r : Answer} {b : ℕ} → Promise s d e u t r → r ≡ Report b → refusal s (length d) (length u) ≡ 0
+verdict-report {s} {d} p q = of-none s (length d) _ (says-of p q .none)
+
+pub verdict-refused : {s d e u t : List ℕ} {r : Answer} {k : ℕ} → Promise s d e u t r → r ≡ Refused k → refusal s (length d) (length u) ≡ k
+verdict-refused {s} {d} p q = of-first s (length d) _ _ (says-of p q .first)

@@ -15,9 +15,9 @@ ghost use Rattle.family.specs.Stages.{Sized};
 ghost use Rattle.score.specs.Stages.{Lined, Numbered, Curated, OutcomeBy, OutcomeOf};
 
 // The least scratch, in words, and the least result, in bytes.
-const LEAST_WORDS: usize = 16129;
+pub const LEAST_WORDS: usize = 16129;
 
-const LEAST_BYTES: usize = 5952;
+pub const LEAST_BYTES: usize = 5952;
 
 // How many bytes the report has, or the number of the refusal.
 pub enum Answer {

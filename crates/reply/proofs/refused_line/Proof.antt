@@ -1,9 +1,9 @@
 -- The six columns replace the six zeros after the word, and the line feed stays.
 -- Assumes nothing.
-use Rattle.lgt_score.proofs.Told.{told}
+use Rattle.reply.proofs.Told.{told}
 use borrow.Author.Needs.{needs}
-use Rattle.lgt_score.proofs.refused_line.Statement.{statement}
-use Rattle.lgt_score.proofs.refused_line.Tie as tie
+use Rattle.reply.proofs.refused_line.Statement.{statement}
+use Rattle.reply.proofs.refused_line.Tie as tie
 
 sub-write-field : tie.Need-sub-write-field
 sub-write-field c = search needs
