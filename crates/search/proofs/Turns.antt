@@ -5,11 +5,11 @@ use mathlib.Core.List.{List}
 use Prim.Native.Nat.{ℕ, _+_, _≤_, _<_}
 use native.Mathlib.Omega.{arith}
 use Rattle.tables.specs.Columns.{entry, written, blank}
-use Rattle.tables.proofs.Columns.{blank-clear}
 use Rattle.layout.specs.Lines.{nodesIn}
 use Rattle.layout.specs.Parts as Parts
 use Rattle.layout.specs.Tree.{Held}
 use Rattle.layout.specs.Choices.{best}
+use Rattle.layout.specs.Genes.{left, leaf, geneTree}
 use Rattle.layout.specs.Headers.{costs}
 use Rattle.layout.specs.declared.Header.{Header}
 use Rattle.topology.specs.Networks.{Network}
@@ -65,11 +65,13 @@ module _ (h : Header) (lines parts genes : List ℕ) (P : Prepared h lines parts
   pub works : (f : ℕ → ℕ) (t r : List ℕ) (s : Score) → Assembled h lines genes f t r s → Working h lines genes t r
   works f t r s A = record { held = some-held (A .held); lent = A .lent }
 
-  blank-lent : Lent G blank
-  blank-lent = record { long = blank-clear 2 (omega arith) .long; no-transfers = λ g _. blank-clear 2 (omega arith) .none g; no-losses = λ g _. blank-clear 3 (omega arith) .none g }
+  pub works-first : (σ : Switching) (t r : List ℕ) → Held N σ t → Lent G r → Working h lines genes t r
+  works-first σ t r H L = record { held = some-held H; lent = L }
 
-  pub works-first : (σ : Switching) (t r : List ℕ) → Held N σ t → r ≡ blank → Working h lines genes t r
-  works-first σ t r H e = rw e (record { held = some-held H; lent = blank-lent })
+  -- leaf genes sit at nodes
+  pub leaves-low : (k : ℕ) → 1 ≤ k → k ≤ h .genes → left genes k ≡ 0 → leaf genes k ≤ 127
+  unfolding geneTree
+  leaves-low k a b e = omega (arith, P .seated .seat k a b e .high, low)
 
   -- one step
   module _ (ch : List ℕ) (s : Stage) (A : Awaiting N G C ch s) where
