@@ -23,7 +23,7 @@ use Rattle.layout.specs.Headers.{costs}
 use Rattle.layout.specs.declared.Header.{Header}
 use Rattle.reconciliation.specs.GeneTrees.{GeneTree}
 use Rattle.reconciliation.proofs.Genes.{parent-gene}
-use Rattle.displayed.specs.Displayed.{Displayed, NodeOf, Tree, common}
+use Rattle.displayed.specs.Displayed.{Displayed, Tree, common}
 use Rattle.displayed.specs.Tabled.{treeIn}
 use Rattle.displayed.specs.Mapping.{place, event, isDuplication, transfers, losses, duplicationCount, transferCount, lossCount, lcaCost}
 use Rattle.displayed.proofs.Places.{place-leaf, place-inner, place-node}

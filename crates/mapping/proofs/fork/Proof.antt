@@ -1,8 +1,5 @@
 -- Half of at most two arcs is 1 where they are two, and else 0.
 -- Assumes nothing.
-use Prim.Native.Nat.{_/_}
-use mathlib.Core.Path.{_≡_}
-use Rattle.finite.specs.Tests.{same, tally}
 use Rattle.finite.proofs.Cases.{byEq}
 use Rattle.finite.proofs.Tests.{is-same, not-same}
 use native.Mathlib.Omega.{arith}

@@ -2,7 +2,6 @@
 -- Assumes nothing.
 use native.Mathlib.Omega.{arith}
 use Rattle.mapping.proofs.Fields.{passed-duplication, passed-other}
-use borrow.Author.Needs.{needs}
 use Rattle.mapping.proofs.steps_of.Statement.{statement}
 use Rattle.mapping.proofs.steps_of.Tie as tie
 

@@ -1,7 +1,6 @@
 -- The steps reach the machine's last state (proofs/Steps); the switching of its bests is then evaluated, and crate optimum says that it is the
 -- cheapest (proofs/Assembling).
 -- Assumes nothing.
-use native.Mathlib.Omega.{arith}
 use Rattle.search.proofs.Turns.{works-first, leaves-low, searched}
 use borrow.Author.Needs.{needs}
 use Rattle.search.proofs.run.Statement.{statement}
