@@ -80,7 +80,7 @@ module _ (N : Network) (ok : Sound N) (σ τ : Switching) (v : ℕ) (k : Node N 
 -- leaf genes that sit at leaves of the network sit at leaves of each tree, and no more than two on arcs leave a node
 module _ (N : Network) (ok : Sound N) (σ : Switching) (G : GeneTree) (s : Seated N G) where
   -- each on arc is one of the two kinds
-  on-arcs : (v : ℕ) → children (N .size) (parent N σ) v ≤ children (N .size) (N .principal) v + children (N .size) (N .secondary) v
+  pub on-arcs : (v : ℕ) → children (N .size) (parent N σ) v ≤ children (N .size) (N .principal) v + children (N .size) (N .secondary) v
   unfolding children count
   on-arcs v = omega (
     arith,

@@ -14,8 +14,8 @@ use Rattle.finite.specs.Range.{count}
 use Rattle.finite.proofs.Cases.{byEq}
 use Rattle.finite.proofs.Tests.{is-same, not-same}
 use Rattle.finite.proofs.Sum.{down-start, down-turn, down-fits, down-done}
-use Rattle.tables.specs.Columns.{entry, written}
-use Rattle.tables.proofs.Columns.{long, write-here, write-row, write-column}
+use Rattle.tables.specs.Columns.{entry, written, blank}
+use Rattle.tables.proofs.Columns.{long, write-here, write-row, write-column, blank-clear}
 use Rattle.layout.specs.Results as R
 use Rattle.layout.specs.Genes.{geneTree}
 use Rattle.layout.specs.Genes as L
@@ -23,7 +23,7 @@ use Rattle.layout.specs.Headers.{costs}
 use Rattle.layout.specs.declared.Header.{Header}
 use Rattle.reconciliation.specs.GeneTrees.{GeneTree}
 use Rattle.reconciliation.proofs.Genes.{parent-gene}
-use Rattle.displayed.specs.Displayed.{Displayed, NodeOf, Tree, common}
+use Rattle.displayed.specs.Displayed.{Displayed, Tree, common}
 use Rattle.displayed.specs.Tabled.{treeIn}
 use Rattle.displayed.specs.Mapping.{place, event, isDuplication, transfers, losses, duplicationCount, transferCount, lossCount, lcaCost}
 use Rattle.displayed.proofs.Places.{place-leaf, place-inner, place-node}
@@ -33,7 +33,7 @@ use Rattle.displayed.proofs.Gathering.{by-parents}
 use Rattle.displayed.proofs.Bounds.{duplications-few, transfers-few, losses-under}
 use Rattle.mapping.specs.Climbs.{treeOf}
 use Rattle.mapping.specs.Pairs.{eventBy, Paired}
-use Rattle.mapping.specs.Evaluation.{Family, Lent, Seats, seatedBy, sentTo, notedBy, Room, raisedBy, Counted, totalOf, scoreOf, ofChildren, Upto, Evaluated}
+use Rattle.mapping.specs.Evaluation.{Family, LeavesUpto, Lent, Seats, seatedBy, sentTo, notedBy, Room, raisedBy, Counted, totalOf, scoreOf, ofChildren, Upto, Evaluated}
 use Rattle.mapping.specs.declared.Steps.{Steps}
 use Rattle.mapping.specs.declared.Pair.{Pair}
 use Rattle.mapping.specs.declared.Score.{Score}
@@ -59,6 +59,51 @@ module _ (r : List ℕ) (k node code : ℕ) (l : length r ≡ 512) (lk : k < 128
   seated-column : (j v : ℕ) → j ≢ 0 → j ≢ 1 → entry (seatedBy r k node code) j v ≡ entry r j v
   unfolding seatedBy
   seated-column j v d e = write-column (written r 0 k node) 1 k code lk j v e ∙ write-column r 0 k node lk j v d
+
+-- the leaf genes one after another
+pub leaves-start : (g r : List ℕ) → r ≡ blank → LeavesUpto g 0 r
+leaves-start g r e = rw e (record {
+  long = blank-clear 0 (omega arith) .long;
+  places = λ j a b. absurd (omega arith);
+  events = λ j a b. absurd (omega arith);
+  no-transfers = blank-clear 2 (omega arith) .none;
+  no-losses = blank-clear 3 (omega arith) .none;
+})
+
+module _ {g r : List ℕ} (k : ℕ) (u : LeavesUpto g k r) where
+  pub leaves-skip : L.left g (k + 1) ≢ 0 → LeavesUpto g (k + 1) r
+  leaves-skip d = record {
+    long = u .long;
+    places = λ j a b e. u .places j a (below j b e) e;
+    events = λ j a b e. u .events j a (below j b e) e;
+    no-transfers = u .no-transfers;
+    no-losses = u .no-losses;
+  }
+    where
+      below : (j : ℕ) → j ≤ k + 1 → L.left g j ≡ 0 → j ≤ k
+      below j b e = byEq j (k + 1) (λ q. absurd (d (ap (L.left g) (sym q) ∙ e))) (λ q. omega arith)
+
+  pub leaves-next : {s : List ℕ} {v : ℕ} → k < 127 → v ≡ L.leaf g (k + 1) → s ≡ seatedBy r (k + 1) v 0 → LeavesUpto g (k + 1) s
+  leaves-next {s} {v} l ev q = rw q (record {
+    long = seated-long r (k + 1) v 0 (u .long) lk;
+    places = λ j a b e. byEq j (k + 1) (λ p. rw p (seated-place r (k + 1) v 0 (u .long) lk ∙ ev)) (λ p. seated-row r (k + 1) v 0 (u .long) lk 0 j p ∙ u .places j a (omega arith) e);
+    events = λ j a b e. byEq j (k + 1) (λ p. rw p (seated-event r (k + 1) v 0 (u .long) lk)) (λ p. seated-row r (k + 1) v 0 (u .long) lk 1 j p ∙ u .events j a (omega arith) e);
+    no-transfers = λ j. seated-column r (k + 1) v 0 (u .long) lk 2 j (λ p. omega arith) (λ p. omega arith) ∙ u .no-transfers j;
+    no-losses = λ j. seated-column r (k + 1) v 0 (u .long) lk 3 j (λ p. omega arith) (λ p. omega arith) ∙ u .no-losses j;
+  })
+    where
+      lk : k + 1 < 128
+      lk = omega arith
+
+pub leaves-done : (m k : ℕ) (g r : List ℕ) → m ≤ k → LeavesUpto g k r → Lent (geneTree m g) r
+unfolding geneTree
+leaves-done m k g r l u = record {
+  long = u .long;
+  leaf-places = λ j a b e. u .places j a (omega arith) e;
+  leaf-events = λ j a b e. u .events j a (omega arith) e;
+  no-transfers = λ j _. u .no-transfers j;
+  no-losses = λ j _. u .no-losses j;
+}
 
 -- what is written of a way
 module _ (r : List ℕ) (k : ℕ) (w : Steps) (l : length r ≡ 512) (lk : k < 128) where
@@ -210,12 +255,6 @@ module _ (h : Header) (t g : List ℕ) (F : Family h t g) where
 
     -- a leaf gene
     module _ (e : G .left k ≡ 0) where
-      pub leaf-node : NodeOf T (G .leaf k)
-      leaf-node = F .seated .seat k low lg e
-
-      pub leaf-few : (k ≤ 127) × (G .leaf k ≤ 127)
-      leaf-few = (omega (arith, lk), omega (arith, leaf-node .high, size-few))
-
       none : (f : ℕ → ℕ) → 0 ≡ ofChildren G f k
       unfolding ofChildren
       none f = rw (is-same e)
@@ -223,26 +262,18 @@ module _ (h : Header) (t g : List ℕ) (F : Family h t g) where
       not-parent : (j : ℕ) → G .parent j ≢ k
       not-parent j q = F .rooted .parent-inner j (λ z. omega arith) (ap (G .left) q ∙ e)
 
-      pub upto-leaf : (v : List ℕ) → v ≡ seatedBy r k (G .leaf k) 0 → Upto T G (costs h) (k - 1) v s
-      upto-leaf v q = rw q (record {
-        lent = record {
-          long = seated-long r k (G .leaf k) 0 (u .lent .long) lk;
-          no-transfers = λ j z. seated-column r k (G .leaf k) 0 (u .lent .long) lk 2 j (λ p. omega arith) (λ p. omega arith) ∙ u .lent .no-transfers j z;
-          no-losses = λ j z. seated-column r k (G .leaf k) 0 (u .lent .long) lk 3 j (λ p. omega arith) (λ p. omega arith) ∙ u .lent .no-losses j z;
-        };
-        places = λ j a b. byEq j k
-            (λ p. rw p (seated-place r k (G .leaf k) 0 (u .lent .long) lk ∙ sym (place-leaf T G (F .rooted) k e)))
-            (λ d. seated-row r k (G .leaf k) 0 (u .lent .long) lk 0 j d ∙ u .places j (omega arith) b);
-        events = λ j a b. byEq j k
-            (λ p. rw p (seated-event r k (G .leaf k) 0 (u .lent .long) lk ∙ sym (event-leaf T G k e)))
-            (λ d. seated-row r k (G .leaf k) 0 (u .lent .long) lk 1 j d ∙ u .events j (omega arith) b);
-        ways = λ j a. seated-column r k (G .leaf k) 0 (u .lent .long) lk 2 j (λ p. omega arith) (λ p. omega arith) ∙ u .ways j (beyond j a);
-        lost = λ j a. seated-column r k (G .leaf k) 0 (u .lent .long) lk 3 j (λ p. omega arith) (λ p. omega arith) ∙ u .lost j (beyond j a);
+      pub upto-leaf : Upto T G (costs h) (k - 1) r s
+      upto-leaf = record {
+        lent = u .lent;
+        places = λ j a b. byEq j k (λ p. rw p (u .lent .leaf-places k low lg e ∙ sym (place-leaf T G (F .rooted) k e))) (λ d. u .places j (omega arith) b);
+        events = λ j a b. byEq j k (λ p. rw p (u .lent .leaf-events k low lg e ∙ sym (event-leaf T G k e))) (λ d. u .events j (omega arith) b);
+        ways = λ j a. u .ways j (beyond j a);
+        lost = λ j a. u .lost j (beyond j a);
         duplications = same-sum _ _ _ (down-turn _ k (s .duplications) 0 _ low (u .duplications) (rw (event-leaf T G k e, not-same {m = 0} {n = 2} (λ p. omega arith))));
         transferred = same-sum _ _ _ (down-turn _ k (s .transfers) 0 _ low (u .transferred) (none (transfers T G)));
         given-up = same-sum _ _ _ (down-turn _ k (s .losses) 0 _ low (u .given-up) (none (losses T G)));
         cost = u .cost;
-      })
+      }
         where
           beyond : (j : ℕ) → k - 1 < G .parent j → k < G .parent j
           beyond j a = byEq (G .parent j) k (λ p. absurd (not-parent j p)) (λ d. omega arith)
@@ -336,7 +367,13 @@ module _ (h : Header) (t g : List ℕ) (F : Family h t g) where
         noted : (v : List ℕ) → v ≡ notedBy r k a b p → Upto T G (costs h) (k - 1) v (raisedBy h s p)
         unfolding raisedBy
         noted v q = rw q (record {
-          lent = record { long = noted-long r k a b p l lk la lb; no-transfers = λ j e. other 2 j e (λ x. omega arith) (λ x. omega arith) ∙ u .lent .no-transfers j e; no-losses = λ j e. other 3 j e (λ x. omega arith) (λ x. omega arith) ∙ u .lent .no-losses j e };
+          lent = record {
+            long = noted-long r k a b p l lk la lb;
+            leaf-places = λ j x y e. noted-before r k a b p l lk la lb 0 j (λ q. omega arith) (λ q. omega arith) (inner j e) ∙ u .lent .leaf-places j x y e;
+            leaf-events = λ j x y e. noted-before r k a b p l lk la lb 1 j (λ q. omega arith) (λ q. omega arith) (inner j e) ∙ u .lent .leaf-events j x y e;
+            no-transfers = λ j e. other 2 j e (λ x. omega arith) (λ x. omega arith) ∙ u .lent .no-transfers j e;
+            no-losses = λ j e. other 3 j e (λ x. omega arith) (λ x. omega arith) ∙ u .lent .no-losses j e;
+          };
           places = λ j x y. byEq j k (λ e. rw e (noted-place r k a b p l lk la lb ∙ node-is))
               (λ n. noted-before r k a b p l lk la lb 0 j (λ e. omega arith) (λ e. omega arith) n ∙ u .places j (omega arith) y);
           events = λ j x y. byEq j k (λ e. rw e (noted-event r k a b p l lk la lb ∙ event-is))
@@ -362,6 +399,10 @@ module _ (h : Header) (t g : List ℕ) (F : Family h t g) where
 
             apart : a ≢ b
             apart = F .rooted .apart k d
+
+            -- a leaf gene is not k
+            inner : (j : ℕ) → G .left j ≡ 0 → j ≢ k
+            inner j e q = d (ap (G .left) (sym q) ∙ e)
 
             -- a gene without parent is no child of k
             other : (c j : ℕ) → G .parent j ≡ 0 → c ≢ 0 → c ≢ 1 → entry (notedBy r k a b p) c j ≡ entry r c j
@@ -393,11 +434,8 @@ module _ (h : Header) (t g : List ℕ) (F : Family h t g) where
       left-some : (a ≡ 0 → ⊥) → G .left k ≢ 0
       left-some d e = d (ea ∙ sym (left-is k) ∙ e)
 
-      pub leaf-fits : (v : ℕ) → a ≡ 0 → v ≡ L.leaf g k → (k ≤ 127) × (v ≤ 127)
-      leaf-fits v e ev = rw (ev ∙ sym (leaf-is k)) (leaf-few (left-none e))
-
-      pub leaf-turn : (v : ℕ) (x : List ℕ) → a ≡ 0 → v ≡ L.leaf g k → x ≡ seatedBy r k v 0 → Upto T G (costs h) (k - 1) x s
-      leaf-turn v x e ev q = upto-leaf (left-none e) x (q ∙ ap (λ (z : ℕ). seatedBy r k z 0) (ev ∙ sym (leaf-is k)))
+      pub leaf-turn : a ≡ 0 → Upto T G (costs h) (k - 1) r s
+      leaf-turn e = upto-leaf (left-none e)
 
       module _ (b : ℕ) (d : a ≡ 0 → ⊥) (eb : b ≡ L.right g k) where
         a-is : a ≡ G .left k

@@ -65,6 +65,7 @@ module _ (n : ℕ) (t : List ℕ) (K : Climbable n t) (x y : ℕ) (kx : NodeOf (
     passable w event i h = record {
       inside = rw (i .last) last-few;
       upper = omega (arith, K .ups (w .last), K .few);
+      few-arcs = λ d. rw (i .last) (K .few-arcs _ (rw (← up-is n t K _ (departure-node T ok b z kz over (h d)), departing T ok b z over (h d) .from) (common-node T ok x y kx ky)));
       added = λ d. rw (i .last, last-mark (h d), i .losses) (depart-le T ok b (mark T) z over (h d));
     }
 

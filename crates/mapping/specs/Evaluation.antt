@@ -10,6 +10,7 @@ use Rattle.finite.specs.Range.{sum}
 use Rattle.tables.specs.Columns.{written}
 use Rattle.layout.specs.Results as R
 use Rattle.layout.specs.Genes.{geneTree}
+use Rattle.layout.specs.Genes as L
 use Rattle.layout.specs.Headers.{WithinLimits}
 use Rattle.layout.specs.declared.Header.{Header}
 use Rattle.reconciliation.specs.GeneTrees.{GeneTree, Rooted}
@@ -28,11 +29,21 @@ pub record Family (h : Header) (t g : List ℕ) : Type 0 where
   pub rooted : Rooted (geneTree (h .genes) g)
   pub seated : SeatedIn (treeOf (h .nodes) t) (geneTree (h .genes) g)
 
--- a table of results to write in: a gene without parent has no way
+-- a table of results to write in: leaf genes have their place and event, which no switching changes, and a gene without parent has no way
 pub record Lent (G : GeneTree) (r : List ℕ) : Type 0 where
   pub long : length r ≡ 512
+  pub leaf-places : (g : ℕ) → 1 ≤ g → g ≤ G .count → G .left g ≡ 0 → R.place r g ≡ G .leaf g
+  pub leaf-events : (g : ℕ) → 1 ≤ g → g ≤ G .count → G .left g ≡ 0 → R.event r g ≡ 0
   pub no-transfers : (g : ℕ) → G .parent g ≡ 0 → R.transfers r g ≡ 0
   pub no-losses : (g : ℕ) → G .parent g ≡ 0 → R.losses r g ≡ 0
+
+-- no gene has a way yet, and of the leaf genes those up to k have their place and event
+pub record LeavesUpto (g : List ℕ) (k : ℕ) (r : List ℕ) : Type 0 where
+  pub long : length r ≡ 512
+  pub places : (j : ℕ) → 1 ≤ j → j ≤ k → L.left g j ≡ 0 → R.place r j ≡ L.leaf g j
+  pub events : (j : ℕ) → 1 ≤ j → j ≤ k → L.left g j ≡ 0 → R.event r j ≡ 0
+  pub no-transfers : (j : ℕ) → R.transfers r j ≡ 0
+  pub no-losses : (j : ℕ) → R.losses r j ≡ 0
 
 -- the children of a gene have their places
 pub record Seats (n : ℕ) (t r : List ℕ) (a b : ℕ) : Type 0 where

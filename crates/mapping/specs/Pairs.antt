@@ -6,7 +6,7 @@ use mathlib.Core.Bool.{Bool, cond, _||_}
 use mathlib.Core.List.{List}
 use Prim.Native.Nat.{ℕ, _-_, _≤_}
 use Rattle.finite.specs.Tests.{same}
-use Rattle.layout.specs.Tree.{up, lateral}
+use Rattle.layout.specs.Tree.{up, lateral, arcs}
 use Rattle.displayed.specs.Displayed.{Displayed, common, way, departure}
 use Rattle.displayed.specs.Mapping.{sends}
 use Rattle.displayed.specs.Arcs.{move, mark}
@@ -27,6 +27,7 @@ eventBy sent b x y = cond (same x b || same y b) 2 (cond sent 3 1)
 pub record Passable (t : List ℕ) (event : ℕ) (w : Way) : Type 0 where
   pub inside : w .last ≤ 127
   pub upper : up t (w .last) ≤ 127
+  pub few-arcs : event ≢ 2 → arcs t (up t (w .last)) ≤ 2
   pub added : event ≢ 2 → forkIn t (up t (w .last)) ≤ w .losses
 
 -- the way of a child: "Losses are the nodes strictly between that have two on arcs, and one more if the parent gene is a duplication and the gene sits

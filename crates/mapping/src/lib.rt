@@ -11,16 +11,17 @@ use layout::tree::lateral;
 use layout::tree::rank;
 use layout::tree::up;
 ghost use mathlib.Core.Path.{_≡_};
-ghost use Prim.Native.Nat.{_-_, _≤_};
+ghost use Prim.Native.Nat.{ℕ, _+_, _-_, _≤_, _<_};
 ghost use Rattle.finite.specs.Tests.{same, tally};
-ghost use Rattle.layout.specs.Tree.{up as upIn, lateral as lateralIn};
-ghost use Rattle.layout.specs.Genes.{geneTree};
+ghost use Rattle.tables.specs.Columns.{blank};
+ghost use Rattle.layout.specs.Tree.{up as upIn, lateral as lateralIn, arcs as arcsIn};
+ghost use Rattle.layout.specs.Genes.{left as leftIn, leaf as leafIn, geneTree};
 ghost use Rattle.layout.specs.Results.{place as placeIn};
 ghost use Rattle.layout.specs.Headers.{costs};
 ghost use Rattle.displayed.specs.Displayed.{NodeOf};
 ghost use Rattle.mapping.specs.Climbs.{forkIn, treeOf, Climbable, Light, climbedBy, Meeting};
 ghost use Rattle.mapping.specs.Pairs.{sentBy, eventBy, Passable, passedBy, Paired};
-ghost use Rattle.mapping.specs.Evaluation.{Family, Seats, seatedBy, sentTo, notedBy, Room, raisedBy, Upto, Counted, totalOf, scoreOf, Lent, Evaluated};
+ghost use Rattle.mapping.specs.Evaluation.{Family, Seats, seatedBy, sentTo, notedBy, Room, raisedBy, Upto, Counted, totalOf, scoreOf, LeavesUpto, Lent, Evaluated};
 
 // A way, climbed from its lower end: the transfers, the losses of a gene that passes every node above its lower end, and the arc climbed last, by its
 // lower end, 0 where none was.
@@ -61,17 +62,15 @@ pub struct Score {
 
 // 1 for a node that two on arcs leave.
 fn fork(arcs: u32) -> u32
+    requires { ⌜ arcs ≤ 2 ⌝ }
     ensures { λ r. ⌜ (r ≡ tally (same arcs 2)) × (r ≤ 1) ⌝ }
 {
-    if arcs == 2 {
-        return 1;
-    }
-    0
+    arcs / 2
 }
 
 // 1 where coming down the arc into c from a node passed gives up another arc.
 fn mark(t: &Tree, c: usize) -> u32
-    requires { ⌜ (c ≤ 127) × (upIn (now t) c ≤ 127) ⌝ }
+    requires { ⌜ (c ≤ 127) × (upIn (now t) c ≤ 127) × (arcsIn (now t) (upIn (now t) c) ≤ 2) ⌝ }
     ensures { λ r. ⌜ (r ≡ forkIn (now (t .entry)) (upIn (now (t .entry)) c)) × (r ≤ 1) ⌝ }
 {
     fork(arcs(t, up(t, c)))
@@ -79,7 +78,7 @@ fn mark(t: &Tree, c: usize) -> u32
 
 // The way once the arc into a is climbed too.
 fn climb(t: &Tree, w: Way, a: usize) -> Way
-    requires { ⌜ (a ≤ 127) × (upIn (now t) a ≤ 127) × (lateralIn (now t) a ≤ 1) × Light w ⌝ }
+    requires { ⌜ (a ≤ 127) × (upIn (now t) a ≤ 127) × (lateralIn (now t) a ≤ 1) × (arcsIn (now t) (upIn (now t) a) ≤ 2) × Light w ⌝ }
     ensures { λ r. ⌜ r ≡ climbedBy (now (t .entry)) w a ⌝ }
 {
     Way {
@@ -106,13 +105,17 @@ fn meet(n: usize, t: &Tree, x: usize, y: usize) -> Met
         losses: 0,
         last: 0,
     };
+    let mut p = rank(t, x);
+    let mut q = rank(t, y);
     while a != b {
-        if rank(t, b) <= rank(t, a) {
+        if q <= p {
             left = climb(t, left, a);
             a = up(t, a);
+            p = rank(t, a);
         } else {
             right = climb(t, right, b);
             b = up(t, b);
+            q = rank(t, b);
         }
     }
     Met {
@@ -223,6 +226,29 @@ fn send(r: &mut Results, k: usize, w: Steps)
     tables::put(r, results::LOSSES, k, w.losses);
 }
 
+// Gene k + 1, where it is a leaf gene, is seated.
+fn seat_leaf(g: &Genes, r: &mut Results, k: usize)
+    requires { ⌜ (k < 127) × (leftIn (now g) (k + 1) ≡ 0 → leafIn (now g) (k + 1) ≤ 127) × LeavesUpto (now g) k (now r) ⌝ }
+    ensures { λ _. ⌜ LeavesUpto (now (g .entry)) (k + 1) (now (r .exit)) ⌝ }
+{
+    let j = k + 1;
+    if genes::left(g, j) == 0 {
+        seat(r, j, genes::leaf(g, j), 0);
+    }
+}
+
+// A leaf gene sits at its leaf and has the event 0 under every switching: noted once, before the first.
+pub fn seat_leaves(m: usize, g: &Genes, r: &mut Results)
+    requires { ⌜ (m ≤ 127) × ((k : ℕ) → 1 ≤ k → k ≤ m → leftIn (now g) k ≡ 0 → leafIn (now g) k ≤ 127) × (now r ≡ blank) ⌝ }
+    ensures { λ _. ⌜ Lent (geneTree m (now (g .entry))) (now (r .exit)) ⌝ }
+{
+    let mut k: usize = 0;
+    while k < m {
+        seat_leaf(g, r, k);
+        k += 1;
+    }
+}
+
 // An inner gene k with the children a and b, whose places are known.
 fn inner(n: usize, t: &Tree, r: &mut Results, k: usize, a: usize, b: usize) -> Pair
     requires { ⌜ Climbable n (now t) × Seats n (now t) (now r) a b × (k ≤ 127) × (a ≤ 127) × (b ≤ 127) ⌝ }
@@ -244,7 +270,6 @@ fn gene(h: Header, t: &Tree, g: &Genes, r: &mut Results, k: usize, s: Score) -> 
 {
     let a = genes::left(g, k);
     if a == 0 {
-        seat(r, k, genes::leaf(g, k), 0);
         return s;
     }
     let b = genes::right(g, k);

@@ -14,7 +14,7 @@ use Rattle.topology.specs.Switchings.{Switching, onSecondary, onArcs}
 use Rattle.topology.specs.Lines.{network}
 use Rattle.topology.proofs.Above.{parent-cases, byNode}
 use Rattle.layout.specs.Lines.{nodesIn}
-use Rattle.layout.specs.Tree.{up, lateral, rank, Held}
+use Rattle.layout.specs.Tree.{up, lateral, rank, arcs, Held}
 use Rattle.layout.specs.Headers.{costs}
 use Rattle.layout.specs.declared.Header.{Header}
 use Rattle.reconciliation.specs.GeneTrees.{GeneTree}
@@ -23,7 +23,7 @@ use Rattle.displayed.specs.Displays.{switched, display, base, twoArcs}
 use Rattle.displayed.specs.Tabled.{treeIn, Holds}
 use Rattle.displayed.specs.Model as D
 use Rattle.displayed.proofs.Model.{table-tree, table-seated, table-place, table-event, table-transfers, table-losses, table-duplicationCount, table-transferCount, table-lossCount, table-cost}
-use Rattle.displayed.proofs.Displays.{no-third}
+use Rattle.displayed.proofs.Displays.{on-arcs, no-third}
 use Rattle.mapping.specs.Climbs.{forkIn, treeOf, Climbable}
 use Rattle.mapping.specs.Evaluation.{Family, scoreOf, Evaluated}
 use Rattle.mapping.specs.declared.Score.{Score}
@@ -64,6 +64,10 @@ module _ (h : Header) (lines parts genes : List ℕ) (P : Prepared h lines parts
   rank-some : (v : ℕ) → 1 ≤ v → v ≤ n → 1 ≤ rank t v
   rank-some v l u = rw (H .ranks v (omega (arith, size-is))) (P .sound .rank-some v (λ e. omega arith))
 
+  arcs-few : (v : ℕ) → NodeOf (treeOf n t) v → arcs t v ≤ 2
+  unfolding treeOf treeIn onArcs
+  arcs-few v k = let d : Node N v = record { low = k .low; high = omega (arith, k .high, size-is) } in omega (arith, H .counts v d, on-arcs N (P .sound) σ G (P .seated) v, P .seated .few v d)
+
   -- three on arcs do not leave one node
   narrow : (c d e : ℕ) → NodeOf (treeOf n t) c → NodeOf (treeOf n t) d → NodeOf (treeOf n t) e → c ≢ d → up t c ≡ up t d → up t e ≡ up t c → (e ≡ c) ⊎ (e ≡ d)
   unfolding treeOf treeIn
@@ -82,6 +86,7 @@ module _ (h : Header) (lines parts genes : List ℕ) (P : Prepared h lines parts
     ranks = rank-some;
     laterals = lateral-few;
     ups = up-few;
+    few-arcs = arcs-few;
     narrow = narrow;
   }
 

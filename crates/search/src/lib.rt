@@ -189,6 +189,7 @@ pub fn run(
     ensures { λ f. ⌜ Searched h (now (lines .entry)) (now (genes .entry)) (now (choices .exit)) (now (t .exit)) (now (r .exit)) f ⌝ }
 {
     switching::start(h.nodes, lines, parts, t);
+    mapping::seat_leaves(h.genes, genes, r);
     let trials = components(h, lines, parts, genes, choices, t, r);
     let score = evaluated(h, lines, parts, genes, choices, choices::BEST, t, r);
     Found {

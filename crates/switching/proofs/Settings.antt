@@ -25,9 +25,9 @@ use Rattle.switching.specs.Settings.{bitOf}
 use Rattle.switching.specs.Turning.{turned, Turns, SomeHeld, TurnedTo}
 use Rattle.switching.proofs.Turning.{held-agree, turned-here, turned-other}
 
-pub bit-low : (x k j b : ℕ) → b ≡ bitOf x k j → b ≤ 1
+pub bit-low : (x k j : ℕ) {b : ℕ} → b ≡ bitOf x k j → b ≤ 1
 unfolding bitOf
-bit-low x k j b e = omega arith
+bit-low x k j e = omega arith
 
 -- what the assembled switching says at a reticulation
 assembled-bit : (N : Network) → Sound N → (r : ℕ) → Reticulation N r → (settings : ℕ → ℕ)
@@ -65,7 +65,7 @@ module _ {N : Network} {τ : Switching} (ok : Sound N) where
     }
 
 -- as the code reads it: the lines l hold the network, and the parts p the top c of r's component, how many reticulations it has, and r's index there
-module _ (n : ℕ) (l : List ℕ) (v x : ℕ) (u : v < n) (e : x ≡ secondary l (v + 1)) where
+module _ {n : ℕ} (l : List ℕ) {v x : ℕ} (u : v < n) (e : x ≡ secondary l (v + 1)) where
   read : network (nodesIn n l) .secondary (v + 1) ≡ x
   unfolding network
   read = secondary-in n l (v + 1) (omega arith) (omega arith) ∙ sym e
@@ -76,11 +76,11 @@ module _ (n : ℕ) (l : List ℕ) (v x : ℕ) (u : v < n) (e : x ≡ secondary l
   pub read-reticulation : x ≢ 0 → Reticulation (network (nodesIn n l)) (v + 1)
   read-reticulation d z = d (sym read ∙ z)
 
-module _ (n : ℕ) (l p : List ℕ) (few : n ≤ 127) (ok : Sound (network (nodesIn n l))) (parted : Parted (network (nodesIn n l)) p) where
+module _ {n : ℕ} (l : List ℕ) {p : List ℕ} (few : n ≤ 127) (ok : Sound (network (nodesIn n l))) (parted : Parted (network (nodesIn n l)) p) where
   abbrev N : Network
   N = network (nodesIn n l)
 
-  module _ (r : ℕ) (d : Reticulation N r) (c : ℕ) (ec : c ≡ top p r) where
+  module _ (r : ℕ) (d : Reticulation N r) {c : ℕ} (ec : c ≡ top p r) where
     is-node : Node N r
     is-node = reticulation-node N ok r d
 
@@ -91,7 +91,7 @@ module _ (n : ℕ) (l p : List ℕ) (few : n ≤ 127) (ok : Sound (network (node
     unfolding network nodesIn
     top-low = omega (arith, top-is, component-node N ok r is-node)
 
-    module _ (k j : ℕ) (ek : k ≡ Parts.reticulationCount p c) (ej : j ≡ index p r) where
+    module _ {k j : ℕ} (ek : k ≡ Parts.reticulationCount p c) (ej : j ≡ index p r) where
       count-is : k ≡ reticulationCount N (component N r)
       count-is = rw (← top-is) (ek ∙ parted .counts c (rw top-is (component-node N ok r is-node)))
 
@@ -101,8 +101,8 @@ module _ (n : ℕ) (l p : List ℕ) (few : n ≤ 127) (ok : Sound (network (node
       pub bit-fits : ((c : ℕ) → reticulationCount N c ≤ 8) → (j < k) × (k ≤ 8)
       bit-fits small = (omega (arith, count-is, index-is, index-bit N ok r d), omega (arith, count-is, small (component N r)))
 
-      pub bit-told : (settings : ℕ → ℕ) (b : ℕ) → b ≡ bitOf (settings c) k j → same b 1 ≡ assembled N settings r
-      bit-told settings b e = rw (e, count-is, index-is, top-is) (assembled-bit N ok r d settings)
+      pub bit-told : (settings : ℕ → ℕ) {b : ℕ} → b ≡ bitOf (settings c) k j → same b 1 ≡ assembled N settings r
+      bit-told settings e = rw (e, count-is, index-is, top-is) (assembled-bit N ok r d settings)
 
 -- a trial of the search: all components but c on principal
 module _ (N : Network) (ok : Sound N) (settings : ℕ → ℕ) (c x : ℕ) (here : settings c ≡ x) (others : (a : ℕ) → a ≢ c → settings a ≡ 0) where

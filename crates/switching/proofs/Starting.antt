@@ -92,6 +92,6 @@ module _ (n : ℕ) (l p : List ℕ) (few : n ≤ 127) where
         past = λ v u. rank-is v ∙ within-out n (P.rank p) v u;
       }
 
-      pub started : (t a b c : List ℕ) → t ≡ blank → a ≡ column upColumn n t (principal l) → b ≡ column rankColumn n a (P.rank p)
+      pub started : {t a b c : List ℕ} → t ≡ blank → a ≡ column upColumn n t (principal l) → b ≡ column rankColumn n a (P.rank p)
           → c ≡ column arcsColumn n b (children n (principal l)) → Held N allPrincipal c
-      started t a b c et ea eb ec = rw (ec, eb, ea, et) started-third
+      started et ea eb ec = rw (ec, eb, ea, et) started-third

@@ -58,13 +58,13 @@ mark-of : (b : ℕ) → b ≤ 1 → b ≡ tally (same b 1)
 mark-of b l = byEq b 1 (λ e. rw (is-same e) e) (λ d. rw (not-same d) (omega arith))
 
 -- the parent that a reticulation takes
-pub takes-secondary : (b s p x : ℕ) → b ≡ 1 → x ≡ s → x ≡ parentTaken b s p
+pub takes-secondary : {b x : ℕ} (s p : ℕ) → b ≡ 1 → x ≡ s → x ≡ parentTaken b s p
 unfolding parentTaken
-takes-secondary b s p x e f = rw (is-same e) f
+takes-secondary s p e f = rw (is-same e) f
 
-pub takes-principal : (b s p x : ℕ) → b ≢ 1 → x ≡ p → x ≡ parentTaken b s p
+pub takes-principal : {b x : ℕ} (s p : ℕ) → b ≢ 1 → x ≡ p → x ≡ parentTaken b s p
 unfolding parentTaken
-takes-principal b s p x d f = rw (not-same d) f
+takes-principal s p d f = rw (not-same d) f
 
 parent-turned : (N : Network) (σ : Switching) (r b : ℕ) → Reticulation N r → parent N (turned σ r b) r ≡ parentTaken b (N .secondary r) (N .principal r)
 unfolding parent parentTaken
@@ -88,14 +88,14 @@ module _ (t : List ℕ) (p q : ℕ) (l : length t ≡ 512) (lp : p < 128) (lq : 
       (λ e. rw (e, is-same {m = p} refl) (omega (arith, write-here t arcsColumn p (arcs t p - 1) lp (omega (arith, l)))))
       (λ d. rw (not-same {m = p} {n = v} (λ e. d (sym e))) (omega (arith, write-row t arcsColumn p (arcs t p - 1) lp arcsColumn v d)))
 
-  pub moved-room : arcs t q ≤ 127 → (s : List ℕ) (x y : ℕ) → x ≡ arcs t p → s ≡ written t arcsColumn p (x - 1) → y ≡ arcs s q → y ≤ 127
-  moved-room u s x y ex es ey = rw (ey, es, ex) (byEq q p
+  pub moved-room : arcs t q ≤ 127 → {s : List ℕ} {x y : ℕ} → x ≡ arcs t p → s ≡ written t arcsColumn p (x - 1) → y ≡ arcs s q → y ≤ 127
+  moved-room u ex es ey = rw (ey, es, ex) (byEq q p
       (λ e. rw e (omega (arith, ap (arcs t) e, write-here t arcsColumn p (arcs t p - 1) lp (omega (arith, l)))))
       (λ d. omega (arith, write-row t arcsColumn p (arcs t p - 1) lp arcsColumn q d)))
 
-  pub moved-is : (s u : List ℕ) (x y : ℕ) → x ≡ arcs t p → s ≡ written t arcsColumn p (x - 1) → y ≡ arcs s q → u ≡ written s arcsColumn q (y + 1) → u ≡ arcMoved t p q
+  pub moved-is : {s u : List ℕ} {x y : ℕ} → x ≡ arcs t p → s ≡ written t arcsColumn p (x - 1) → y ≡ arcs s q → u ≡ written s arcsColumn q (y + 1) → u ≡ arcMoved t p q
   unfolding arcMoved
-  moved-is s u x y ex es ey eu = eu ∙ rw (ey, es, ex)
+  moved-is ex es ey eu = eu ∙ rw (ey, es, ex)
 
   one-more : (v : ℕ) → arcs (arcMoved t p q) v ≡ arcs taken-off v + tally (same q v)
   unfolding arcMoved
@@ -204,7 +204,7 @@ module _ (N : Network) (ok : Sound N) (few : N .size ≤ 127) (r : ℕ) (d : Ret
         }
 
 -- a turn as the code makes it: the lines l hold the network
-module _ (n : ℕ) (l : List ℕ) (r b : ℕ) (few : n ≤ 127) (lr : 1 ≤ r) (ur : r ≤ n) (lb : b ≤ 1) (ok : Sound (network (nodesIn n l))) (d : Reticulation (network (nodesIn n l)) r) where
+module _ {n : ℕ} (l : List ℕ) {r b : ℕ} (few : n ≤ 127) (lr : 1 ≤ r) (ur : r ≤ n) (lb : b ≤ 1) (ok : Sound (network (nodesIn n l))) (d : Reticulation (network (nodesIn n l)) r) where
   abbrev N : Network
   N = network (nodesIn n l)
 
@@ -216,7 +216,7 @@ module _ (n : ℕ) (l : List ℕ) (r b : ℕ) (few : n ≤ 127) (lr : 1 ≤ r) (
   unfolding network
   taken-is σ q e = e ∙ rw (← principal-in n l r lr ur, ← secondary-in n l r lr ur) (sym (parent-turned N σ r b d))
 
-  module _ (t : List ℕ) (H : SomeHeld N t) (p q : ℕ) (ep : p ≡ up t r) (eq : q ≡ parentTaken b (secondary l r) (principal l r)) where
+  module _ {t : List ℕ} (H : SomeHeld N t) {p q : ℕ} (ep : p ≡ up t r) (eq : q ≡ parentTaken b (secondary l r) (principal l r)) where
     pub arc-moves : (p ≤ 127) × (q ≤ 127) × (length t ≡ 512) × (1 ≤ arcs t p) × (arcs t q ≤ 127)
     arc-moves =
         let σ = H .switching in
@@ -226,11 +226,11 @@ module _ (n : ℕ) (l : List ℕ) (r b : ℕ) (few : n ≤ 127) (lr : 1 ≤ r) (
         let k : Node N (parent N (turned σ r b) r) = parent-node N ok low r d (turned σ r b) in
         (omega (arith, low, parent-node N ok low r d σ), omega (arith, low, k), h .long, rw a (arcs-some N ok low r d σ t h), rw e (arcs-few N ok low r d σ t h _ k))
 
-  pub turns-none : (t : List ℕ) (x : ℕ) → x ≡ lateral t r → x ≡ b → Turns N r b t t
-  turns-none t x e f = record { holds = λ σ h. turn-none N ok low r d σ t h b lb (sym e ∙ f) }
+  pub turns-none : (t : List ℕ) {x : ℕ} → x ≡ lateral t r → x ≡ b → Turns N r b t t
+  turns-none t e f = record { holds = λ σ h. turn-none N ok low r d σ t h b lb (sym e ∙ f) }
 
-  pub turns-moved : (t s u w : List ℕ) (p q : ℕ) → p ≡ up t r → q ≡ parentTaken b (secondary l r) (principal l r) → s ≡ arcMoved t p q
+  pub turns-moved : (t : List ℕ) {s u w : List ℕ} {p q : ℕ} → p ≡ up t r → q ≡ parentTaken b (secondary l r) (principal l r) → s ≡ arcMoved t p q
       → u ≡ written s upColumn r q → w ≡ written u lateralColumn r b → Turns N r b t w
-  turns-moved t s u w p q ep eq es eu ew = rw (ew, eu, es) (record {
+  turns-moved t {s} {u} {w} {p} {q} ep eq es eu ew = rw (ew, eu, es) (record {
     holds = λ σ h. turn-moved N ok low r d σ t h b lb p q (ep ∙ h .ups r) (taken-is σ q eq);
   })

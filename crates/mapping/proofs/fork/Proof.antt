@@ -1,15 +1,13 @@
--- `mapping::fork` meets its contract.
+-- Half of at most two arcs is 1 where they are two, and else 0.
 -- Assumes nothing.
+use Rattle.finite.proofs.Cases.{byEq}
 use Rattle.finite.proofs.Tests.{is-same, not-same}
 use native.Mathlib.Omega.{arith}
 use Rattle.mapping.proofs.fork.Statement.{statement}
 use Rattle.mapping.proofs.fork.Tie as tie
 
 returns : tie.Need-returns
-returns c = (rw (is-same (c .if1 .taken)), omega arith)
-
-returns-2 : tie.Need-returns-2
-returns-2 c = (rw (not-same (c .if1 .left)), omega arith)
+returns c = (byEq (c .args .arcs) 2 (λ e. rw (is-same e) (omega arith)) (λ d. rw (not-same d) (omega arith)), omega arith)
 
 pub fork-spec : {M : Type 1} → statement M
-fork-spec = tie.close (tie.spec returns returns-2)
+fork-spec = tie.close (tie.spec returns)

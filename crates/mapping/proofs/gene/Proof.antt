@@ -1,6 +1,6 @@
 -- A leaf gene sits at its leaf, an inner gene where its children's climbs meet; either way one gene more is done (proofs/Evaluating).
 -- Assumes nothing.
-use Rattle.mapping.proofs.Evaluating.{leaf-fits, leaf-turn, inner-fits, inner-room, inner-turn}
+use Rattle.mapping.proofs.Evaluating.{leaf-turn, inner-fits, inner-room, inner-turn}
 use borrow.Author.Needs.{needs}
 use Rattle.mapping.proofs.gene.Statement.{statement}
 use Rattle.mapping.proofs.gene.Tie as tie
@@ -8,16 +8,8 @@ use Rattle.mapping.proofs.gene.Tie as tie
 left-requires : tie.Need-left-requires
 left-requires c κs = search needs
 
-leaf-requires : tie.Need-leaf-requires
-leaf-requires c κs = search needs
-
-seat-requires : tie.Need-seat-requires
-seat-requires c κs = let s = c .before .before .before .before .pre in leaf-fits _ _ _ (s .0 .0) _ (s .0 .1) (s .0 .2) _ _ (s .1) _ (c .before .before .before .left .ensures) _ (c .before .before .if1 .taken) (c .leaf .ensures)
-
 returns : tie.Need-returns
-returns c =
-    let s = c .before .before .before .before .before .pre in
-    leaf-turn _ _ _ (s .0 .0) _ (s .0 .1) (s .0 .2) _ _ (s .1) _ (c .before .before .before .before .left .ensures) _ _ (c .before .before .before .if1 .taken) (c .before .leaf .ensures) (c .seat .ensures)
+returns c = let s = c .before .before .pre in leaf-turn _ _ _ (s .0 .0) _ (s .0 .1) (s .0 .2) _ _ (s .1) _ (c .before .left .ensures) (c .if1 .taken)
 
 right-requires : tie.Need-right-requires
 right-requires c κs = search needs
@@ -43,8 +35,6 @@ gene-spec =
     tie.close
     (tie.spec
     left-requires
-    leaf-requires
-    seat-requires
     returns
     right-requires
     inner-requires

@@ -12,7 +12,7 @@ arcs-requires : tie.Need-arcs-requires
 arcs-requires c κs = search needs
 
 fork-requires : tie.Need-fork-requires
-fork-requires c κs = search needs
+fork-requires c κs = rw (c .arcs .ensures, c .before .up .ensures) (c .before .before .pre .2)
 
 returns : tie.Need-returns
 unfolding forkIn

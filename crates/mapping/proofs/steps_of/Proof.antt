@@ -2,7 +2,6 @@
 -- Assumes nothing.
 use native.Mathlib.Omega.{arith}
 use Rattle.mapping.proofs.Fields.{passed-duplication, passed-other}
-use borrow.Author.Needs.{needs}
 use Rattle.mapping.proofs.steps_of.Statement.{statement}
 use Rattle.mapping.proofs.steps_of.Tie as tie
 
@@ -10,7 +9,7 @@ returns : tie.Need-returns
 returns c = passed-duplication _ _ _ (c .if1 .taken)
 
 mark-requires : tie.Need-mark-requires
-mark-requires c κs = search needs
+mark-requires c κs = let s = c .before .pre in (s .inside, s .upper, s .few-arcs (c .if1 .left))
 
 sub-t6 : tie.Need-sub-t6
 sub-t6 c = omega (arith, c .before .mark .ensures .0, c .before .before .before .pre .added (c .before .before .if1 .left))

@@ -24,37 +24,37 @@ reticulation-count-requires : tie.Need-reticulation-count-requires Inv-loop μ-l
 reticulation-count-requires c κs = let s = c .before .pre in omega (arith, s .1 .1, s .0 .0 .limits .few-nodes)
 
 settings-of-requires : tie.Need-settings-of-requires Inv-loop μ-loop
-settings-of-requires c κs = let s = c .before .before .pre in few-reticulations _ _ _ _ (s .0 .0) _ _ 0 (omega arith) (omega (arith, s .1 .1)) (c .reticulation-count .ensures)
+settings-of-requires c κs = let s = c .before .before .pre in few-reticulations (s .0 .0) (omega arith) (omega (arith, s .1 .1)) (c .reticulation-count .ensures)
 
 loop-holds : tie.Need-loop-holds Inv-loop μ-loop
 loop-holds c = let s = c .before .before .before .pre in (refl, omega (arith, s .1 .2), s .1 .0, s .0 .1)
 
 step-requires : tie.Need-step-requires Inv-loop μ-loop
 step-requires c κs =
-    let s = c .before .before .before .before .before .before .before .before .before .pre in
-    let i = c .before .before .before .before .before .loop .inv in
-    ((s .0 .0, i .3), awaits _ _ _ _ (s .0 .0) _ _ (i .2) (omega (arith, i .0, s .1 .1)) _ (tried-still _ _ _ _ (s .0 .0) _ _ _ (tried-is _ _ _ _ (s .0 .0) _ _ _ (omega arith) (omega (arith, s .1 .1)) (c .before .before .before .before .before .before .before .reticulation-count .ensures) (c .before .before .before .before .before .before .settings-of .ensures)) (i .0)) (c .before .before .before .if1 .taken))
+    let test = c .before .before .before in let turn = test .before .before in let before = turn .before in
+    let s = before .before .before .before .pre in let i = turn .loop .inv in
+    let tried = tried-is (s .0 .0) (omega arith) (omega (arith, s .1 .1)) (before .before .reticulation-count .ensures) (before .settings-of .ensures) in
+    ((s .0 .0, i .3), awaits (s .0 .0) (i .2) (omega (arith, i .0, s .1 .1)) (tried-still (s .0 .0) tried (i .0)) (test .if1 .taken))
 
 loop-less : tie.Need-loop-less Inv-loop μ-loop
-loop-less c = omega (arith, c .step .ensures .0 .2, c .before .before .before .before .if1 .taken)
+loop-less c = let test = c .before .before .before .before in omega (arith, c .step .ensures .0 .2, test .if1 .taken)
 
 loop-again : tie.Need-loop-again Inv-loop μ-loop
 loop-again c =
-    let i = c .before .before .before .before .before .before .loop .inv in
-    let e = c .step .ensures in
-    (e .0 .1 ∙ i .0, omega (arith, e .0 .2, c .before .before .before .before .if1 .taken), e .0 .0, e .1)
+    let test = c .before .before .before .before in let i = test .before .before .loop .inv in let e = c .step .ensures in
+    (e .0 .1 ∙ i .0, omega (arith, e .0 .2, test .if1 .taken), e .0 .0, e .1)
 
 finish-requires : tie.Need-finish-requires Inv-loop μ-loop
 finish-requires c κs =
-    let s = c .before .before .before .before .before .before .before .pre in
-    let i = c .before .before .before .loop .inv in
+    let turn = c .before .before .before in let s = turn .before .before .before .before .pre in let i = turn .loop .inv in
     omega (arith, i .0, s .1 .1, s .0 .0 .limits .few-nodes)
 
 returns : tie.Need-returns Inv-loop μ-loop
 returns c =
-    let s = c .before .before .before .before .before .before .before .before .pre in
-    let i = c .before .before .before .before .loop .inv in
-    let f = finishes _ _ _ _ (s .0 .0) _ _ (i .2) (omega (arith, i .0, s .1 .1)) _ (tried-still _ _ _ _ (s .0 .0) _ _ _ (tried-is _ _ _ _ (s .0 .0) _ _ _ (omega arith) (omega (arith, s .1 .1)) (c .before .before .before .before .before .before .reticulation-count .ensures) (c .before .before .before .before .before .settings-of .ensures)) (i .0)) (i .1) (c .before .before .if1 .left) _ _ (c .finish .ensures) in
+    let test = c .before .before in let turn = test .before .before in let before = turn .before in
+    let s = before .before .before .before .pre in let i = turn .loop .inv in
+    let tried = tried-is (s .0 .0) (omega arith) (omega (arith, s .1 .1)) (before .before .reticulation-count .ensures) (before .settings-of .ensures) in
+    let f = finishes (s .0 .0) (i .2) (omega (arith, i .0, s .1 .1)) (tried-still (s .0 .0) tried (i .0)) (i .1) (test .if1 .left) (c .finish .ensures) in
     ((f .0, omega (arith, f .1, i .0), f .2), i .3)
 
 pub component-spec : {M : Type 1} → statement M

@@ -18,27 +18,28 @@ abbrev μ-loop : tie.MeasureT-loop
 μ-loop h lines parts genes choices₀ t₀ r₀ n stage₀ choices t r stage = h .nodes - stage .done
 
 loop-holds : tie.Need-loop-holds Inv-loop μ-loop
-loop-holds c = (omega arith, refl, begins _ _ _ _ (c .pre .0) _ (c .pre .2), c .pre .1)
+loop-holds c = (omega arith, refl, begins (c .pre .0) (c .pre .2), c .pre .1)
 
 component-requires : tie.Need-component-requires Inv-loop μ-loop
 component-requires c κs =
-    let s = c .before .before .before .before .before .before .pre in
-    let i = c .before .before .before .before .before .loop .inv in
-    ((s .0, i .3), (i .2, omega (arith, s .0 .limits .some-node, c .before .before .before .if1 .taken), i .1))
+    let test = c .before .before .before in let turn = test .before .before in let s = turn .before .pre in let i = turn .loop .inv in
+    ((s .0, i .3), (i .2, omega (arith, s .0 .limits .some-node, test .if1 .taken), i .1))
 
 loop-less : tie.Need-loop-less Inv-loop μ-loop
-loop-less c = omega (arith, c .before .before .before .before .before .before .before .pre .0 .limits .some-node, c .component .ensures .0 .1, c .before .before .before .before .if1 .taken)
+loop-less c =
+    let test = c .before .before .before .before in let s = test .before .before .before .pre in
+    omega (arith, s .0 .limits .some-node, c .component .ensures .0 .1, test .if1 .taken)
 
 loop-again : tie.Need-loop-again Inv-loop μ-loop
 loop-again c =
-    let e = c .component .ensures in
-    (omega (arith, c .before .before .before .before .before .before .before .pre .0 .limits .some-node, e .0 .1, c .before .before .before .before .if1 .taken), e .0 .2, e .0 .0, e .1)
+    let e = c .component .ensures in let test = c .before .before .before .before in let s = test .before .before .before .pre in
+    (omega (arith, s .0 .limits .some-node, e .0 .1, test .if1 .taken), e .0 .2, e .0 .0, e .1)
 
 returns : tie.Need-returns Inv-loop μ-loop
 returns c =
     let s = c .before .before .before .pre in
     let i = c .before .before .loop .inv in
-    (ends _ _ _ _ (s .0) _ _ (i .2) (i .1) (i .0) (c .if1 .left), i .3)
+    (ends (s .0) (i .2) (i .1) (i .0) (c .if1 .left), i .3)
 
 pub components-spec : {M : Type 1} → statement M
 components-spec =

@@ -11,13 +11,13 @@ switch-requires c κs = search needs
 
 evaluate-requires : tie.Need-evaluate-requires
 evaluate-requires c κs =
-    let s = c .before .before .before .before .pre in
-    (family-held _ _ _ _ (s .0) _ _ (c .before .before .switch .ensures), s .1 .lent)
+    let switched = c .before .before in let s = switched .before .before .pre in
+    (family-held (s .0) _ (switched .switch .ensures), s .1 .lent)
 
 returns : tie.Need-returns
 returns c =
-    let s = c .before .before .before .before .before .pre in
-    assembly _ _ _ _ (s .0) _ _ (c .before .before .before .switch .ensures) _ _ (c .evaluate .ensures .0) (c .evaluate .ensures .1)
+    let switched = c .before .before .before in let s = switched .before .before .pre in
+    assembly (s .0) _ (switched .switch .ensures) (c .evaluate .ensures .0) (c .evaluate .ensures .1)
 
 pub evaluated-spec : {M : Type 1} → statement M
 evaluated-spec = tie.close (tie.spec switch-requires evaluate-requires returns)

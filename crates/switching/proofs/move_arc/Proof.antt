@@ -19,8 +19,8 @@ arcs-requires-2 c κs = search needs
 
 add-put : tie.Need-add-put
 add-put c =
-    let s = c .before .before .before .before .before .before .before .pre in
-    let u = moved-room _ _ _ (s .2) (search needs) (search needs) (s .4) _ _ _ (c .before .before .before .before .arcs .ensures) (c .before .before .before .put .ensures) (c .arcs2 .ensures) in
+    let put = c .before .before .before in let read = put .before in let s = read .before .before .before .pre in
+    let u = moved-room _ _ _ (s .2) (search needs) (search needs) (s .4) (read .arcs .ensures) (put .put .ensures) (c .arcs2 .ensures) in
     search needs
 
 put-requires-2 : tie.Need-put-requires-2
@@ -28,8 +28,8 @@ put-requires-2 c κs = search needs
 
 returns : tie.Need-returns
 returns c =
-    let s = c .before .before .before .before .before .before .before .before .pre in
-    moved-is _ _ _ (s .2) (search needs) (search needs) _ _ _ _ (c .before .before .before .before .before .arcs .ensures) (c .before .before .before .before .put .ensures) (c .before .arcs2 .ensures) (c .put2 .ensures)
+    let put = c .before .before .before .before in let read = put .before in let s = read .before .before .before .pre in
+    moved-is _ _ _ (s .2) (search needs) (search needs) (read .arcs .ensures) (put .put .ensures) (c .before .arcs2 .ensures) (c .put2 .ensures)
 
 pub move-arc-spec : {M : Type 1} → statement M
 move-arc-spec =

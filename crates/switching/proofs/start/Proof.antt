@@ -13,13 +13,13 @@ ranks-requires c κs = search needs
 
 child-counts-requires : tie.Need-child-counts-requires
 child-counts-requires c κs =
-    let s = c .before .before .before .before .before .before .pre in
-    (s .0, search needs, search needs, counts-clear _ _ _ (s .0) _ _ _ (s .3) (c .before .before .before .before .principal-parents .ensures) (c .before .before .ranks .ensures))
+    let ranked = c .before .before in let begun = ranked .before .before in let s = begun .before .before .pre in
+    (s .0, search needs, search needs, counts-clear _ _ _ (s .0) _ _ _ (s .3) (begun .principal-parents .ensures) (ranked .ranks .ensures))
 
 returns : tie.Need-returns
 returns c =
-    let s = c .before .before .before .before .before .before .before .pre in
-    started _ _ _ (s .0) (s .1) (s .2) _ _ _ _ (s .3) (c .before .before .before .before .before .principal-parents .ensures) (c .before .before .before .ranks .ensures) (c .child-counts .ensures)
+    let ranked = c .before .before .before in let begun = ranked .before .before in let s = begun .before .before .pre in
+    started _ _ _ (s .0) (s .1) (s .2) (s .3) (begun .principal-parents .ensures) (ranked .ranks .ensures) (c .child-counts .ensures)
 
 pub start-spec : {M : Type 1} → statement M
 start-spec =

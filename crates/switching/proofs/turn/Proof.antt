@@ -11,7 +11,7 @@ lateral-requires c κs = search needs
 returns : tie.Need-returns
 returns c =
     let s = c .before .before .before .pre .0 in
-    turns-none _ _ _ _ (s .0) (s .1) (s .2) (s .3) (s .4) (s .5) _ _ (c .before .lateral .ensures) (c .if1 .taken)
+    turns-none _ (s .0) (s .1) (s .2) (s .3) (s .4) (s .5) _ (c .before .lateral .ensures) (c .if1 .taken)
 
 parent-taken-requires : tie.Need-parent-taken-requires
 parent-taken-requires c κs = search needs
@@ -21,13 +21,13 @@ up-requires c κs = search needs
 
 move-arc-requires : tie.Need-move-arc-requires
 move-arc-requires c κs =
-    let s = c .before .before .before .before .before .before .before .pre .0 in
-    arc-moves _ _ _ _ (s .0) (s .1) (s .2) (s .3) (s .4) (s .5) _ (c .before .before .before .before .before .before .before .pre .1) _ _ (c .up .ensures) (c .before .before .before .parent-taken .ensures)
+    let chosen = c .before .before .before in let p = chosen .before .before .before .before .pre in let s = p .0 in
+    arc-moves _ (s .0) (s .1) (s .2) (s .3) (s .4) (s .5) (p .1) (c .up .ensures) (chosen .parent-taken .ensures)
 
 cast-put : tie.Need-cast-put
 cast-put c =
-    let s = c .before .before .before .before .before .before .before .before .before .pre .0 in
-    let m = arc-moves _ _ _ _ (s .0) (s .1) (s .2) (s .3) (s .4) (s .5) _ (c .before .before .before .before .before .before .before .before .before .pre .1) _ _ (c .before .before .up .ensures) (c .before .before .before .before .before .parent-taken .ensures) .1 in
+    let left = c .before .before in let chosen = left .before .before .before in let p = chosen .before .before .before .before .pre in let s = p .0 in
+    let m = arc-moves _ (s .0) (s .1) (s .2) (s .3) (s .4) (s .5) (p .1) (left .up .ensures) (chosen .parent-taken .ensures) .1 in
     search needs
 
 put-requires : tie.Need-put-requires
@@ -38,8 +38,9 @@ put-requires-2 c κs = search needs
 
 returns-2 : tie.Need-returns-2
 returns-2 c =
-    let s = c .before .before .before .before .before .before .before .before .before .before .before .before .pre .0 in
-    turns-moved _ _ _ _ (s .0) (s .1) (s .2) (s .3) (s .4) (s .5) _ _ _ _ _ _ (c .before .before .before .before .before .up .ensures) (c .before .before .before .before .before .before .before .before .parent-taken .ensures) (c .before .before .before .before .move-arc .ensures) (c .before .before .put .ensures) (c .put2 .ensures)
+    let rowed = c .before .before in let moved = rowed .before .before in let left = moved .before in let chosen = left .before .before .before in
+    let s = chosen .before .before .before .before .pre .0 in
+    turns-moved _ (s .0) (s .1) (s .2) (s .3) (s .4) (s .5) _ (left .up .ensures) (chosen .parent-taken .ensures) (moved .move-arc .ensures) (rowed .put .ensures) (c .put2 .ensures)
 
 pub turn-spec : {M : Type 1} → statement M
 turn-spec =
