@@ -1,11 +1,10 @@
 -- Cutting a text behind the room of the longest sheet does not change its reply: its header line stays, and a text that is longer than any sheet is refused
 -- by 3, 4 or 5, before and after.
 -- Assumes nothing.
-use mathlib.Core.Path.{_≡_, refl, sym, _∙_, ap}
-use mathlib.Core.Logic.{_≢_}
+use mathlib.Core.Path.{_≡_, sym, _∙_, ap}
 use mathlib.Core.Bool.{true, false}
 use mathlib.Core.List.{List}
-use Prim.Native.Nat.{ℕ, _+_, _*_, _≤_, _<_}
+use Prim.Native.Nat.{ℕ, _*_, _≤_, _<_}
 use native.Mathlib.Omega.{arith}
 use lib.ListN.{length, take, drop}
 use lib.Seq.{length-take-le, take-take, take-all}
@@ -13,8 +12,8 @@ use Rattle.finite.proofs.Cases.{byBool, byLess, clash}
 use Rattle.finite.proofs.Tests.{not-same}
 use Rattle.text_lines.specs.Lines.{lineLength}
 use Rattle.family.specs.Stages.{leastWords, leastBytes}
-use Rattle.sheet.specs.Sheets.{headerIn, headerBy, lineNo, Line, refusal3, refusal4, refusal5, Refusal3, Refusal4, Refusal5, WellFormed}
-use Rattle.sheet.proofs.Refusals.{reading-3, reading-4, reading-5, header-line, header-same, within-limits}
+use Rattle.sheet.specs.Sheets.{lineNo, Line, refusal3, refusal4, refusal5}
+use Rattle.sheet.proofs.Refusals.{reading-3, reading-4, reading-5, header-line, within-limits}
 use Rattle.score.specs.Refusals.{refusal}
 use Rattle.score.proofs.Refusals.{refusal-3, refusal-4, refusal-5}
 use Rattle.reply.specs.Replies.{longestSheet, replyOf}

@@ -1,8 +1,7 @@
 -- What is written is the reply: the answer tells the verdict, so the report or the line of the refusal is the one that the definition chooses; and the
 -- text that was read, cut behind the room of the longest sheet, has the same reply as the whole (proofs/Cutting).
 -- Assumes nothing.
-use mathlib.Core.Path.{_≡_, refl, sym, _∙_, ap}
-use mathlib.Core.Logic.{_≢_}
+use mathlib.Core.Path.{_≡_, sym, _∙_, ap}
 use mathlib.Core.List.{List}
 use Prim.Native.Nat.{ℕ, _≤_, _<_}
 use native.Mathlib.Omega.{arith}
