@@ -61,8 +61,8 @@ module _ (r : List ℕ) (k node code : ℕ) (l : length r ≡ 512) (lk : k < 128
   seated-column j v d e = write-column (written r 0 k node) 1 k code lk j v e ∙ write-column r 0 k node lk j v d
 
 -- the leaf genes one after another
-pub leaves-start : (g r : List ℕ) → r ≡ blank → LeavesUpto g 0 r
-leaves-start g r e = rw e (record {
+pub leaves-start : (g : List ℕ) {r : List ℕ} → r ≡ blank → LeavesUpto g 0 r
+leaves-start g e = rw e (record {
   long = blank-clear 0 (omega arith) .long;
   places = λ j a b. absurd (omega arith);
   events = λ j a b. absurd (omega arith);
@@ -95,9 +95,9 @@ module _ {g r : List ℕ} (k : ℕ) (u : LeavesUpto g k r) where
       lk : k + 1 < 128
       lk = omega arith
 
-pub leaves-done : (m k : ℕ) (g r : List ℕ) → m ≤ k → LeavesUpto g k r → Lent (geneTree m g) r
+pub leaves-done : {m k : ℕ} {g r : List ℕ} → m ≤ k → LeavesUpto g k r → Lent (geneTree m g) r
 unfolding geneTree
-leaves-done m k g r l u = record {
+leaves-done l u = record {
   long = u .long;
   leaf-places = λ j a b e. u .places j a (omega arith) e;
   leaf-events = λ j a b e. u .events j a (omega arith) e;
@@ -178,7 +178,7 @@ module _ (r : List ℕ) (k a b : ℕ) (p : Pair) (l : length r ≡ 512) (lk : k 
 times : {a b c d : ℕ} → a ≤ c → b ≤ d → a * b ≤ c * d
 times = mul-le-mul
 
-module _ (h : Header) (t g : List ℕ) (F : Family h t g) where
+module _ {h : Header} {t g : List ℕ} (F : Family h t g) where
   abbrev T : Displayed
   T = treeOf (h .nodes) t
 
@@ -192,15 +192,11 @@ module _ (h : Header) (t g : List ℕ) (F : Family h t g) where
   unfolding geneTree
   count-is = refl
 
-  pub leaf-is : (k : ℕ) → G .leaf k ≡ L.leaf g k
-  unfolding geneTree
-  leaf-is k = refl
-
-  pub left-is : (k : ℕ) → G .left k ≡ L.left g k
+  left-is : (k : ℕ) → G .left k ≡ L.left g k
   unfolding geneTree
   left-is k = refl
 
-  pub right-is : (k : ℕ) → G .right k ≡ L.right g k
+  right-is : (k : ℕ) → G .right k ≡ L.right g k
   unfolding geneTree
   right-is k = refl
 
@@ -225,9 +221,9 @@ module _ (h : Header) (t g : List ℕ) (F : Family h t g) where
   parent-low : (j : ℕ) → G .count < G .parent j → ⊥
   parent-low j l = omega (arith, parent-gene G (F .rooted) j (λ e. omega arith) .1)
 
-  pub upto-start : (r : List ℕ) → Lent G r → Upto T G (costs h) (h .genes) r (record { duplications = 0; transfers = 0; losses = 0; cost = 0 })
+  pub upto-start : {r : List ℕ} → Lent G r → Upto T G (costs h) (h .genes) r (record { duplications = 0; transfers = 0; losses = 0; cost = 0 })
   unfolding duplicationCount transferCount lossCount count ofChildren geneTree
-  upto-start r l = record {
+  upto-start l = record {
     lent = l;
     places = λ j a b. absurd (omega arith);
     events = λ j a b. absurd (omega arith);
@@ -240,7 +236,7 @@ module _ (h : Header) (t g : List ℕ) (F : Family h t g) where
   }
 
   -- gene k is next
-  module _ (k : ℕ) (low : 1 ≤ k) (high : k ≤ h .genes) (r : List ℕ) (s : Score) (u : Upto T G (costs h) k r s) where
+  module _ {k : ℕ} (low : 1 ≤ k) (high : k ≤ h .genes) {r : List ℕ} {s : Score} (u : Upto T G (costs h) k r s) where
     lk : k < 128
     lk = omega (arith, F .limits .few-genes)
 
@@ -427,7 +423,7 @@ module _ (h : Header) (t g : List ℕ) (F : Family h t g) where
         upto-inner v e q x = rw x (noted v q)
 
     -- the same with the numbers as the code has them
-    module _ (a : ℕ) (ea : a ≡ L.left g k) where
+    module _ {a : ℕ} (ea : a ≡ L.left g k) where
       left-none : a ≡ 0 → G .left k ≡ 0
       left-none e = left-is k ∙ sym ea ∙ e
 
@@ -437,7 +433,7 @@ module _ (h : Header) (t g : List ℕ) (F : Family h t g) where
       pub leaf-turn : a ≡ 0 → Upto T G (costs h) (k - 1) r s
       leaf-turn e = upto-leaf (left-none e)
 
-      module _ (b : ℕ) (d : a ≡ 0 → ⊥) (eb : b ≡ L.right g k) where
+      module _ {b : ℕ} (d : a ≡ 0 → ⊥) (eb : b ≡ L.right g k) where
         a-is : a ≡ G .left k
         a-is = ea ∙ sym (left-is k)
 
@@ -447,18 +443,18 @@ module _ (h : Header) (t g : List ℕ) (F : Family h t g) where
         pub inner-fits : Seats (h .nodes) t r a b × (k ≤ 127) × (a ≤ 127) × (b ≤ 127)
         inner-fits = let f = inner-few (left-some d) in rw (a-is, b-is) (seats (left-some d), f .0, f .1, f .2)
 
-        module _ (p : Pair) (i : Paired T (R.place r a) (R.place r b) p) where
+        module _ {p : Pair} (i : Paired T (R.place r a) (R.place r b) p) where
           j : Paired T (R.place r (G .left k)) (R.place r (G .right k)) p
           j = rw (a-is, b-is) at i
 
           pub inner-room : Room h s p
           inner-room = room (left-some d) p j
 
-          pub inner-turn : (x : List ℕ) (e : Score) → x ≡ notedBy r k a b p → e ≡ raisedBy h s p → Upto T G (costs h) (k - 1) x e
-          inner-turn x e q w = upto-inner (left-some d) p j x e (rw (a-is, b-is) at q) w
+          pub inner-turn : {x : List ℕ} {e : Score} → x ≡ notedBy r k a b p → e ≡ raisedBy h s p → Upto T G (costs h) (k - 1) x e
+          inner-turn {x} {e} q w = upto-inner (left-some d) p j x e (rw (a-is, b-is) at q) w
 
   -- after the last gene
-  module _ (r : List ℕ) (s : Score) (k : ℕ) (none : k ≤ 0) (u : Upto T G (costs h) k r s) where
+  module _ {r : List ℕ} {s : Score} {k : ℕ} (none : k ≤ 0) (u : Upto T G (costs h) k r s) where
     done-duplications : s .duplications ≡ duplicationCount T G
     done-duplications = down-done _ k (s .duplications) _ none (u .duplications)
 
@@ -476,9 +472,9 @@ module _ (h : Header) (t g : List ℕ) (F : Family h t g) where
       cost = omega (arith, u .cost, times {a = h .duplication} {b = s .duplications} {c = 99} {d = 127} (F .limits .duplication) (omega (arith, done-duplications, all-duplications)));
     }
 
-    pub scored : (e : Score) → e ≡ totalOf h s → e ≡ scoreOf T G (costs h)
+    pub scored : {e : Score} → e ≡ totalOf h s → e ≡ scoreOf T G (costs h)
     unfolding totalOf scoreOf lcaCost
-    scored e q = q ∙ rw (u .cost, done-duplications, done-transfers, done-losses) (ap (λ (x : ℕ). made x) whole)
+    scored q = q ∙ rw (u .cost, done-duplications, done-transfers, done-losses) (ap (λ (x : ℕ). made x) whole)
       where
         made : ℕ → Score
         made x = record { duplications = duplicationCount T G; transfers = transferCount T G; losses = lossCount T G; cost = x }

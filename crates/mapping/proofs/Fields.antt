@@ -19,31 +19,31 @@ use Rattle.mapping.specs.declared.Steps.{Steps}
 use Rattle.mapping.specs.declared.Pair.{Pair}
 use Rattle.mapping.specs.declared.Score.{Score}
 
-pub climbed-is : (t : List ℕ) (w : Way) (a p q : ℕ) → p ≡ lateral t a → q ≡ forkIn t (up t a)
+pub climbed-is : (t : List ℕ) (w : Way) (a : ℕ) {p q : ℕ} → p ≡ lateral t a → q ≡ forkIn t (up t a)
     → _≡_ {A = Way} (record { transfers = w .transfers + p; losses = w .losses + q; last = a }) (climbedBy t w a)
 unfolding climbedBy
-climbed-is t w a p q ep eq = rw (ep, eq)
+climbed-is t w a ep eq = rw (ep, eq)
 
 -- one of two arcs is secondary
-pub sent-first : (t : List ℕ) (c d p : ℕ) → p ≡ lateral t c → p ≡ 1 → true ≡ sentBy t c d
+pub sent-first : (t : List ℕ) (c d : ℕ) {p : ℕ} → p ≡ lateral t c → p ≡ 1 → true ≡ sentBy t c d
 unfolding sentBy
-sent-first t c d p e o = rw (is-same (sym e ∙ o))
+sent-first t c d e o = rw (is-same (sym e ∙ o))
 
-pub sent-second : (t : List ℕ) (c d p q : ℕ) → p ≡ lateral t c → (p ≡ 1 → ⊥) → q ≡ lateral t d → eqb q 1 ≡ sentBy t c d
+pub sent-second : (t : List ℕ) (c d : ℕ) {p q : ℕ} → p ≡ lateral t c → (p ≡ 1 → ⊥) → q ≡ lateral t d → eqb q 1 ≡ sentBy t c d
 unfolding sentBy same
-sent-second t c d p q e o f = rw (not-same (λ x. o (e ∙ x)), f)
+sent-second t c d e o f = rw (not-same (λ x. o (e ∙ x)), f)
 
-pub passed-duplication : (t : List ℕ) (event : ℕ) (w : Way) → event ≡ 2 → _≡_ {A = Steps} (record { transfers = w .transfers; losses = w .losses }) (passedBy t event w)
+pub passed-duplication : (t : List ℕ) {event : ℕ} (w : Way) → event ≡ 2 → _≡_ {A = Steps} (record { transfers = w .transfers; losses = w .losses }) (passedBy t event w)
 unfolding passedBy
-passed-duplication t event w e = rw (is-same e) (ap (λ (k : ℕ). record { transfers = w .transfers; losses = k }) less)
+passed-duplication t w e = rw (is-same e) (ap (λ (k : ℕ). record { transfers = w .transfers; losses = k }) less)
   where
     less : w .losses ≡ w .losses - 0
     less = omega arith
 
-pub passed-other : (t : List ℕ) (event : ℕ) (w : Way) (q : ℕ) → (event ≡ 2 → ⊥) → q ≡ forkIn t (up t (w .last))
+pub passed-other : (t : List ℕ) {event : ℕ} (w : Way) {q : ℕ} → (event ≡ 2 → ⊥) → q ≡ forkIn t (up t (w .last))
     → _≡_ {A = Steps} (record { transfers = w .transfers; losses = w .losses - q }) (passedBy t event w)
 unfolding passedBy
-passed-other t event w q d e = rw (not-same d, e)
+passed-other t w d e = rw (not-same d, e)
 
 -- the event chooses
 module _ (h : Header) (s : Score) (p : Pair) where

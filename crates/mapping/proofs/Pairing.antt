@@ -35,7 +35,7 @@ stays-or-not sent b x y = byBool (same x b || same y b) (λ h. rw h (is-same {m 
     other true = not-same (λ e. omega arith)
     other false = not-same (λ e. omega arith)
 
-module _ (n : ℕ) (t : List ℕ) (K : Climbable n t) (x y : ℕ) (kx : NodeOf (treeOf n t) x) (ky : NodeOf (treeOf n t) y) where
+module _ {n : ℕ} {t : List ℕ} {x y : ℕ} (K : Climbable n t) (kx : NodeOf (treeOf n t) x) (ky : NodeOf (treeOf n t) y) where
   abbrev T : Displayed
   T = treeOf n t
 
@@ -153,14 +153,14 @@ module _ (n : ℕ) (t : List ℕ) (K : Climbable n t) (x y : ℕ) (kx : NodeOf (
       both true = refl
       both false = refl
 
-  pub paired-few : (p : Pair) → Paired T x y p → p .node ≤ 127
-  paired-few p i = omega (arith, i .node, node-high n t K _ (common-node T ok x y kx ky), K .few)
+  pub paired-few : {p : Pair} → Paired T x y p → p .node ≤ 127
+  paired-few i = omega (arith, i .node, node-high n t K _ (common-node T ok x y kx ky), K .few)
 
-  module _ (met : Met) (i : Meeting T x y met) where
+  module _ {met : Met} (i : Meeting T x y met) where
     pub lasts-few : (met .left .last ≤ 127) × (met .right .last ≤ 127)
     lasts-few = (rw (i .left .last) (last-few x kx over-x), rw (i .right .last) (last-few y ky over-y))
 
-    module _ (sent : Bool) (event : ℕ) (ee : event ≡ eventBy sent (met .node) x y) where
+    module _ (sent : Bool) {event : ℕ} (ee : event ≡ eventBy sent (met .node) x y) where
       here : same event 2 ≡ (same x b || same y b)
       here = rw (ee, i .node) (stays-or-not sent b x y)
 
@@ -183,9 +183,9 @@ module _ (n : ℕ) (t : List ℕ) (K : Climbable n t) (x y : ℕ) (kx : NodeOf (
       pub passable-right : Passable t event (met .right)
       passable-right = passable y ky over-y (met .right) event (i .right) (λ d. not-right (apart d))
 
-      pub paired : sent ≡ sentBy t (met .left .last) (met .right .last) → (l r : Steps) → l ≡ passedBy t event (met .left) → r ≡ passedBy t event (met .right)
+      pub paired : sent ≡ sentBy t (met .left .last) (met .right .last) → {l r : Steps} → l ≡ passedBy t event (met .left) → r ≡ passedBy t event (met .right)
           → Paired T x y (record { node = met .node; event = event; left = l; right = r })
-      paired es l r el er = record {
+      paired es {l} {r} el er = record {
         node = i .node;
         event = ee ∙ rw (es, i .left .last, i .right .last, i .node) event-last;
         left = passes x kx over-x (met .left) event _ l (i .left) here not-left el;

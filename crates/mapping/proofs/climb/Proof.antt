@@ -18,7 +18,7 @@ add-t7 : tie.Need-add-t7
 add-t7 c = search needs
 
 returns : tie.Need-returns
-returns c = climbed-is _ _ _ _ _ (c .before .before .before .lateral .ensures) (c .before .mark .ensures .0)
+returns c = climbed-is _ _ _ (c .before .before .before .lateral .ensures) (c .before .mark .ensures .0)
 
 pub climb-spec : {M : Type 1} → statement M
 climb-spec = tie.close (tie.spec lateral-requires add-t5 mark-requires add-t7 returns)

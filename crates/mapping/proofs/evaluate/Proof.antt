@@ -19,7 +19,7 @@ abbrev μ-loop : tie.MeasureT-loop
 μ-loop h t g r₀ s₀ k₀ r s k = k
 
 loop-holds : tie.Need-loop-holds Inv-loop μ-loop
-loop-holds c = (search needs, upto-start _ _ _ (c .pre .0) _ (c .pre .1))
+loop-holds c = (search needs, upto-start (c .pre .0) (c .pre .1))
 
 gene-requires : tie.Need-gene-requires Inv-loop μ-loop
 gene-requires c κs = let s = c .before .before .before .pre in let i = c .before .before .loop .inv in ((s .0, search needs, i .0), i .1)
@@ -34,13 +34,13 @@ loop-again : tie.Need-loop-again Inv-loop μ-loop
 loop-again c = (omega (arith, c .before .before .before .loop .inv .0), c .gene .ensures)
 
 total-requires : tie.Need-total-requires Inv-loop μ-loop
-total-requires c κs = let s = c .before .before .pre in let i = c .before .loop .inv in counted _ _ _ (s .0) _ _ _ (search needs) (i .1)
+total-requires c κs = let s = c .before .before .pre in let i = c .before .loop .inv in counted (s .0) (search needs) (i .1)
 
 returns : tie.Need-returns Inv-loop μ-loop
 returns c =
     let s = c .before .before .before .pre in
     let i = c .before .before .loop .inv in
-    (scored _ _ _ (s .0) _ _ _ (search needs) (i .1) _ (c .total .ensures), evaluated _ _ _ (s .0) _ _ _ (search needs) (i .1))
+    (scored (s .0) (search needs) (i .1) (c .total .ensures), evaluated (s .0) (search needs) (i .1))
 
 pub evaluate-spec : {M : Type 1} → statement M
 evaluate-spec =

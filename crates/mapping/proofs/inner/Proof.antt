@@ -17,10 +17,8 @@ pair-of-requires c κs = search needs
 
 seat-requires : tie.Need-seat-requires
 seat-requires c κs =
-    let s = c .before .before .before .before .before .before .pre in
-    let ex = c .before .before .before .before .place .ensures in
-    let ey = c .before .before .place2 .ensures in
-    (s .2, paired-few _ _ (s .0) _ _ (s .1 .left) (s .1 .right) _ (rw (ex, ey) at (c .before .pair-of .ensures)))
+    let paired = c .before in let right = paired .before in let left = right .before .before in let s = left .before .before .pre in
+    (s .2, paired-few (s .0) (s .1 .left) (s .1 .right) (rw (left .place .ensures, right .place2 .ensures) at (paired .pair-of .ensures)))
 
 send-requires : tie.Need-send-requires
 send-requires c κs = search needs
@@ -31,9 +29,9 @@ send-requires-2 c κs = search needs
 returns : tie.Need-returns
 unfolding notedBy
 returns c =
-    let ex = c .before .before .before .before .before .before .before .before .before .place .ensures in
-    let ey = c .before .before .before .before .before .before .before .place2 .ensures in
-    (rw (ex, ey) at (c .before .before .before .before .before .before .pair-of .ensures), rw (c .send2 .ensures, c .before .before .send .ensures, c .before .before .before .before .seat .ensures))
+    let sent = c .before .before in let seated = sent .before .before in
+    let paired = seated .before .before in let right = paired .before in let left = right .before .before in
+    (rw (left .place .ensures, right .place2 .ensures) at (paired .pair-of .ensures), rw (c .send2 .ensures, sent .send .ensures, seated .seat .ensures))
 
 pub inner-spec : {M : Type 1} → statement M
 inner-spec =

@@ -15,7 +15,7 @@ abbrev μ-loop : tie.MeasureT-loop
 μ-loop m g r₀ k₀ r k = m - k
 
 loop-holds : tie.Need-loop-holds Inv-loop μ-loop
-loop-holds c = (omega arith, leaves-start _ _ (c .pre .2))
+loop-holds c = (omega arith, leaves-start _ (c .pre .2))
 
 seat-leaf-requires : tie.Need-seat-leaf-requires Inv-loop μ-loop
 seat-leaf-requires c κs =
@@ -32,7 +32,7 @@ loop-again : tie.Need-loop-again Inv-loop μ-loop
 loop-again c = (search needs, c .seat-leaf .ensures)
 
 returns : tie.Need-returns Inv-loop μ-loop
-returns c = leaves-done _ _ _ _ (omega arith) (c .before .loop .inv .1)
+returns c = leaves-done (omega arith) (c .before .loop .inv .1)
 
 pub seat-leaves-spec : {M : Type 1} → statement M
 seat-leaves-spec =
