@@ -5,7 +5,7 @@ use mathlib.Core.Option.{none}
 use mathlib.Core.Logic.{_≢_}
 use mathlib.Core.List.{List}
 use Prim.Native.Nat.{ℕ, _+_}
-use Rattle.histories.specs.Histories.{Cost, _⊓_, then, both, resting, parting, moving, leaf}
+use Rattle.histories.specs.Histories.{Cost, _lesser_, then, both, resting, parting, moving, leaf}
 use Rattle.histories.specs.Rows.{Cell}
 use Rattle.histories.specs.Families.{outBy}
 use Rattle.histories.proofs.Outs.{out-leaf, out-two, out-mixed, out-one}
@@ -19,41 +19,41 @@ module _ (x y z s : ℕ) where
     unfolding tipCost moving
     tip-leaf e q = q ∙ rw (out-leaf x y z s e) (or-none (resting k (leaf s)))
 
-    pub tip-two : (f u : ℕ) → f ≡ x → u ≡ y → f ≢ 0 → u ≢ 0 → c ≡ (then l (G f) ⊓ then l (G u)) → c ≡ tipCost t l k G (outBy x y z s)
-    unfolding tipCost resting moving _⊓_
+    pub tip-two : (f u : ℕ) → f ≡ x → u ≡ y → f ≢ 0 → u ≢ 0 → c ≡ (then l (G f) lesser then l (G u)) → c ≡ tipCost t l k G (outBy x y z s)
+    unfolding tipCost resting moving _lesser_
     tip-two f u ef eu d e q = q ∙ rw (ef, eu, out-two x y z s (λ h. d (ef ∙ h)) (λ h. e (eu ∙ h)))
 
     pub tip-one : (f u w : ℕ) → f ≡ x → u ≡ y → w ≡ z → f ≢ 0 → u ≡ 0 → w ≡ 0 → c ≡ then 0 (G f) → c ≡ tipCost t l k G (outBy x y z s)
-    unfolding tipCost resting moving _⊓_
+    unfolding tipCost resting moving _lesser_
     tip-one f u w ef eu ew d e h q = q ∙ rw (ef, out-one x y z s (λ o. d (ef ∙ o)) (sym eu ∙ e) (sym ew ∙ h))
 
-    pub tip-mixed : (f u w : ℕ) → f ≡ x → u ≡ y → w ≡ z → f ≢ 0 → u ≡ 0 → w ≢ 0 → c ≡ (then (t + l) (G w) ⊓ then 0 (G f)) → c ≡ tipCost t l k G (outBy x y z s)
-    unfolding tipCost resting moving _⊓_
+    pub tip-mixed : (f u w : ℕ) → f ≡ x → u ≡ y → w ≡ z → f ≢ 0 → u ≡ 0 → w ≢ 0 → c ≡ (then (t + l) (G w) lesser then 0 (G f)) → c ≡ tipCost t l k G (outBy x y z s)
+    unfolding tipCost resting moving _lesser_
     tip-mixed f u w ef eu ew d e h q = q ∙ rw (ef, ew, out-mixed x y z s (λ o. d (ef ∙ o)) (sym eu ∙ e) (λ o. h (ew ∙ o)))
 
   -- an inner gene
   module _ (d t l : ℕ) (A B G : ℕ → Cost) (v : ℕ) (c : Cost) where
     pub inner-leaf : x ≡ 0 → c ≡ both d (A v) (B v) → c ≡ innerCost d t l A B G v (outBy x y z s)
     unfolding innerCost parting moving
-    inner-leaf e q = q ∙ rw (out-leaf x y z s e) (or-none (both d (A v) (B v)) ∙ or-none (both d (A v) (B v) ⊓ none))
+    inner-leaf e q = q ∙ rw (out-leaf x y z s e) (or-none (both d (A v) (B v)) ∙ or-none (both d (A v) (B v) lesser none))
 
     pub inner-two : (f u : ℕ) → f ≡ x → u ≡ y → f ≢ 0 → u ≢ 0
-        → c ≡ ((both d (A v) (B v) ⊓ (both 0 (A f) (B u) ⊓ both 0 (B f) (A u))) ⊓ (then l (G f) ⊓ then l (G u))) → c ≡ innerCost d t l A B G v (outBy x y z s)
+        → c ≡ ((both d (A v) (B v) lesser (both 0 (A f) (B u) lesser both 0 (B f) (A u))) lesser (then l (G f) lesser then l (G u))) → c ≡ innerCost d t l A B G v (outBy x y z s)
     unfolding innerCost parting moving
     inner-two f u ef eu p e q = q ∙ rw (ef, eu, out-two x y z s (λ h. p (ef ∙ h)) (λ h. e (eu ∙ h)))
 
-    pub inner-one : (f u w : ℕ) → f ≡ x → u ≡ y → w ≡ z → f ≢ 0 → u ≡ 0 → w ≡ 0 → c ≡ (both d (A v) (B v) ⊓ then 0 (G f)) → c ≡ innerCost d t l A B G v (outBy x y z s)
+    pub inner-one : (f u w : ℕ) → f ≡ x → u ≡ y → w ≡ z → f ≢ 0 → u ≡ 0 → w ≡ 0 → c ≡ (both d (A v) (B v) lesser then 0 (G f)) → c ≡ innerCost d t l A B G v (outBy x y z s)
     unfolding innerCost parting moving
-    inner-one f u w ef eu ew p e h q = q ∙ rw (ef, out-one x y z s (λ o. p (ef ∙ o)) (sym eu ∙ e) (sym ew ∙ h)) (ap (λ (y : Cost). y ⊓ then 0 (G x)) (or-none (both d (A v) (B v))))
+    inner-one f u w ef eu ew p e h q = q ∙ rw (ef, out-one x y z s (λ o. p (ef ∙ o)) (sym eu ∙ e) (sym ew ∙ h)) (ap (λ (y : Cost). y lesser then 0 (G x)) (or-none (both d (A v) (B v))))
 
     pub inner-mixed : (f u w : ℕ) → f ≡ x → u ≡ y → w ≡ z → f ≢ 0 → u ≡ 0 → w ≢ 0
-        → c ≡ ((both d (A v) (B v) ⊓ transferring t A B v f w) ⊓ (then (t + l) (G w) ⊓ then 0 (G f)))
+        → c ≡ ((both d (A v) (B v) lesser transferring t A B v f w) lesser (then (t + l) (G w) lesser then 0 (G f)))
         → c ≡ innerCost d t l A B G v (outBy x y z s)
     unfolding innerCost parting moving transferring
     inner-mixed f u w ef eu ew p e h q = q ∙ rw (ef, ew, out-mixed x y z s (λ o. p (ef ∙ o)) (sym eu ∙ e) (λ o. h (ew ∙ o)))
 
 -- the lesser of three sums
-pub joined : (r p q h k : ℕ) (D E M : Cost) → costIn r ≡ (costIn p ⊓ costIn q) → costIn p ≡ (costIn h ⊓ costIn k) → costIn h ≡ D → costIn k ≡ E → costIn q ≡ M → costIn r ≡ ((D ⊓ E) ⊓ M)
+pub joined : (r p q h k : ℕ) (D E M : Cost) → costIn r ≡ (costIn p lesser costIn q) → costIn p ≡ (costIn h lesser costIn k) → costIn h ≡ D → costIn k ≡ E → costIn q ≡ M → costIn r ≡ ((D lesser E) lesser M)
 joined r p q h k D E M er ep eh ek eq = er ∙ rw (ep, eh, ek, eq)
 
 -- the words that each case reads: f, u and w are the ends read so far

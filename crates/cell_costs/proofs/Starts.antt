@@ -6,7 +6,7 @@ use Prim.Native.Nat.{ℕ, suc, _+_, _-_, _*_, _≤_}
 use native.Mathlib.Numerals.{add-one}
 use native.Mathlib.Omega.{arith}
 use lib.ListN.{getD}
-use Rattle.histories.specs.Histories.{Cost, _⊓_, leastOver}
+use Rattle.histories.specs.Histories.{Cost, _lesser_, leastOver}
 use Rattle.histories.specs.Words.{noHistory, costOf, cell}
 use Rattle.histories.specs.Rows.{row}
 use Rattle.cell_costs.specs.Costs.{costIn}
@@ -16,7 +16,7 @@ pub over-start : (f : ℕ → Cost) (w : ℕ) → w ≡ noHistory → costIn w �
 unfolding leastOver
 over-start f w e = sum-none (omega arith)
 
-pub over-turn : (n : ℕ) (s : List ℕ) (v r w q : ℕ) → costIn r ≡ leastOver v (row n s 1) → w ≡ getD s v 0 → w ≤ noHistory → costIn q ≡ (costIn r ⊓ costIn w) → costIn q ≡ leastOver (v + 1) (row n s 1)
+pub over-turn : (n : ℕ) (s : List ℕ) (v r w q : ℕ) → costIn r ≡ leastOver v (row n s 1) → w ≡ getD s v 0 → w ≤ noHistory → costIn q ≡ (costIn r lesser costIn w) → costIn q ≡ leastOver (v + 1) (row n s 1)
 unfolding leastOver row cell
 over-turn n s v r w q e ew l f = rw add-one (f ∙ rw (e, sum-word w l, ew, at-one))
   where

@@ -11,7 +11,7 @@ use lib.Seq.{take-all}
 use native.Mathlib.Omega.{arith}
 use Rattle.finite.proofs.Tests.{is-under, not-under}
 use Rattle.finite.proofs.Cases.{byEq, byLess}
-use Rattle.histories.specs.Histories.{Cost, _⊓_, _⊕_, then, both}
+use Rattle.histories.specs.Histories.{Cost, _lesser_, _⊕_, then, both}
 use Rattle.histories.specs.Words.{noHistory, costOf}
 use Rattle.histories.specs.Rows.{costAt, Small, Cell}
 use Rattle.histories.proofs.Words.{cost-none, cost-some}
@@ -21,8 +21,8 @@ small-word : (w : ℕ) → Small (costOf w) → w ≢ noHistory → w ≤ 100000
 unfolding Small
 small-word w h d = rw (cost-some d) at h
 
-pub or-none : (c : Cost) → c ≡ c ⊓ none
-unfolding _⊓_
+pub or-none : (c : Cost) → c ≡ c lesser none
+unfolding _lesser_
 or-none none = refl
 or-none (some x) = refl
 
@@ -55,14 +55,14 @@ sum-both x a b l h i = byEq a noHistory
     (λ e. let u = small-word a h d in let w = small-word b i e in rw (cost-some d, cost-some e) (sum-some (omega arith))))
 
 -- the lesser of two sums
-pub lesser-left : (a b : ℕ) → a < b → costIn a ≡ costIn a ⊓ costIn b
-unfolding _⊓_
+pub lesser-left : (a b : ℕ) → a < b → costIn a ≡ costIn a lesser costIn b
+unfolding _lesser_
 lesser-left a b l = byLess b noHistory
     (λ h. rw (sum-some {w = a} (omega arith), sum-some h) (ap some (omega arith)))
     (λ h. rw (sum-none h) (or-none (costIn a)))
 
-pub lesser-right : (a b : ℕ) → b ≤ a → costIn b ≡ costIn a ⊓ costIn b
-unfolding _⊓_
+pub lesser-right : (a b : ℕ) → b ≤ a → costIn b ≡ costIn a lesser costIn b
+unfolding _lesser_
 lesser-right a b l = byLess a noHistory
     (λ h. rw (sum-some h, sum-some {w = b} (omega arith)) (ap some (omega arith)))
     (λ h. rw (sum-none h))

@@ -10,7 +10,7 @@ use Prim.Native.Nat.{ℕ}
 use Rattle.finite.specs.Tests.{under}
 use Rattle.layout.specs.declared.Header.{Header}
 use Rattle.layout.specs.Lines.{nodeSpecies}
-use Rattle.histories.specs.Histories.{Out, Cost, _⊓_, both, resting, parting, moving}
+use Rattle.histories.specs.Histories.{Out, Cost, _lesser_, both, resting, parting, moving}
 use Rattle.histories.specs.Words.{noHistory}
 use Rattle.histories.specs.Rows.{costAt, Cell}
 use Rattle.histories.specs.Families.{outBy}
@@ -39,14 +39,14 @@ pub record Children (arcs : List ℕ) (v : ℕ) (a b : List ℕ) : Type 0 where
 
 -- the least cost of a leaf gene of species k with the row G, and of an inner gene whose children have the rows A and B, at a node v with the arcs out o
 unfoldable pub tipCost : (t l k : ℕ) (G : ℕ → Cost) → Out → Cost
-tipCost t l k G o = resting k o ⊓ moving t l G o
+tipCost t l k G o = resting k o lesser moving t l G o
 
 unfoldable pub innerCost : (d t l : ℕ) (A B G : ℕ → Cost) → ℕ → Out → Cost
-innerCost d t l A B G v o = (both d (A v) (B v) ⊓ parting t A B v o) ⊓ moving t l G o
+innerCost d t l A B G v o = (both d (A v) (B v) lesser parting t A B v o) lesser moving t l G o
 
 -- of two children with the rows A and B one goes along the secondary arc to z, while the other stays at v or takes the principal arc to x
 unfoldable pub transferring : ℕ → (A B : ℕ → Cost) → (v x z : ℕ) → Cost
-transferring t A B v x z = (both t (A z) (B v) ⊓ both t (B z) (A v)) ⊓ (both t (A z) (B x) ⊓ both t (B z) (A x))
+transferring t A B v x z = (both t (A z) (B v) lesser both t (B z) (A v)) lesser (both t (A z) (B x) lesser both t (B z) (A x))
 
 -- the same by the tables: of a leaf gene of species k with the row g
 abbrev pub tipIn : Header → (k : ℕ) (lines arcs g : List ℕ) → ℕ → Cost

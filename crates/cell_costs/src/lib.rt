@@ -8,7 +8,7 @@ ghost use mathlib.Core.Path.{_≡_};
 ghost use Prim.Native.Nat.{ℕ, _+_, _≤_};
 ghost use lib.ListN.{length};
 ghost use Rattle.layout.specs.Headers.{WithinLimits};
-ghost use Rattle.histories.specs.Histories.{_⊓_, then, both, resting, leaf, leastOver};
+ghost use Rattle.histories.specs.Histories.{_lesser_, then, both, resting, leaf, leastOver};
 ghost use Rattle.histories.specs.Words.{costOf};
 ghost use Rattle.histories.specs.Rows.{row, costAt, Cell};
 ghost use Rattle.cell_costs.specs.Costs.{costIn, Ends, Children, transferring, tipIn, innerIn};
@@ -25,7 +25,7 @@ fn term(x: u32) -> usize
 
 // The lesser of two costs.
 fn lesser(a: usize, b: usize) -> usize
-    ensures { λ r. ⌜ costIn r ≡ (costIn a ⊓ costIn b) ⌝ }
+    ensures { λ r. ⌜ costIn r ≡ (costIn a lesser costIn b) ⌝ }
 {
     if a < b {
         return a;
@@ -72,7 +72,7 @@ fn rest(gene_species: usize, node_species: usize) -> usize
 // The children with the rows a and b part, for a cost c: one starts at x, the other at y.
 fn parted(c: usize, a: &[u32], b: &[u32], x: usize, y: usize) -> usize
     requires { ⌜ (c ≤ 99) × Cell (now a) x × Cell (now b) x × Cell (now a) y × Cell (now b) y ⌝ }
-    ensures { λ r. ⌜ costIn r ≡ (both c (costAt (now (a .entry)) x) (costAt (now (b .entry)) y) ⊓ both c (costAt (now (b .entry)) x) (costAt (now (a .entry)) y)) ⌝ }
+    ensures { λ r. ⌜ costIn r ≡ (both c (costAt (now (a .entry)) x) (costAt (now (b .entry)) y) lesser both c (costAt (now (b .entry)) x) (costAt (now (a .entry)) y)) ⌝ }
 {
     lesser(after_both(c, a, x, b, y), after_both(c, b, x, a, y))
 }
@@ -88,7 +88,7 @@ fn transferred(a: &[u32], b: &[u32], v: usize, x: usize, z: usize, t: usize) -> 
 // The gene with the row g goes down one of two principal arcs, to x and y, with a loss.
 fn lost(g: &[u32], x: usize, y: usize, l: usize) -> usize
     requires { ⌜ (l ≤ 99) × Cell (now g) x × Cell (now g) y ⌝ }
-    ensures { λ r. ⌜ costIn r ≡ (then l (costAt (now (g .entry)) x) ⊓ then l (costAt (now (g .entry)) y)) ⌝ }
+    ensures { λ r. ⌜ costIn r ≡ (then l (costAt (now (g .entry)) x) lesser then l (costAt (now (g .entry)) y)) ⌝ }
 {
     lesser(after(l, g, x), after(l, g, y))
 }
@@ -96,7 +96,7 @@ fn lost(g: &[u32], x: usize, y: usize, l: usize) -> usize
 // It goes along the secondary arc to z with a transfer and a loss, or down the only principal arc, to x, free.
 fn carried(g: &[u32], x: usize, z: usize, t: usize, l: usize) -> usize
     requires { ⌜ (t ≤ 99) × (l ≤ 99) × Cell (now g) x × Cell (now g) z ⌝ }
-    ensures { λ r. ⌜ costIn r ≡ (then (t + l) (costAt (now (g .entry)) z) ⊓ then 0 (costAt (now (g .entry)) x)) ⌝ }
+    ensures { λ r. ⌜ costIn r ≡ (then (t + l) (costAt (now (g .entry)) z) lesser then 0 (costAt (now (g .entry)) x)) ⌝ }
 {
     lesser(after(t + l, g, z), after(0, g, x))
 }

@@ -1,4 +1,4 @@
--- Writing into the front of a part that is lent. A loop keeps "what is written so far, then the rest as it was" (`written`); a part `&mut d[at..]`
+-- Writing into the front of a part that is lent. A loop keeps what is written so far, then the rest as it was (`written`); a part `&mut d[at..]`
 -- that comes back written is the whole written at `at` (`lent`), and writing twice one after the other is writing both (`put-written`).
 -- Assumes nothing.
 use Prim.Native.Nat.{ℕ, suc, _+_, _-_, _≤_, _<_}

@@ -9,7 +9,7 @@ use Prim.Native.Nat.{ℕ, zero, suc, _+_, _*_, _≤_, _<_}
 use lib.ListN.{length}
 use native.Mathlib.Omega.{arith}
 use Rattle.finite.specs.Tests.{under, tally}
-use Rattle.finite.specs.Range.{count, some}
+use Rattle.finite.specs.Range.{count, any}
 use Rattle.finite.proofs.Cases.{byEq, byBool}
 use Rattle.finite.proofs.Tests.{is-same, not-same, is-under, not-under, and-no-r}
 use Rattle.finite.proofs.Sum.{sum-zero-range, sum-suc}
@@ -229,11 +229,11 @@ module _ (n : ℕ) (l : List ℕ) (few : n ≤ 127) where
     unfolding refusal11 crowdedAt network nodesIn
     crowded-stop q = some-stop (crowdedAt N) n v (under 8 k) u (ap (under 8) count-is) (is-under q)
 
-    pub crowded-turn : k ≤ 8 → some v (crowdedAt N) ≡ false → some (v + 1) (crowdedAt N) ≡ false
+    pub crowded-turn : k ≤ 8 → any v (crowdedAt N) ≡ false → any (v + 1) (crowdedAt N) ≡ false
     unfolding crowdedAt
     crowded-turn q h = some-turn (crowdedAt N) v (under 8 k) h (ap (under 8) count-is) (not-under q)
 
-  pub crowded-done : (v : ℕ) → v ≤ n → n ≤ v → some v (crowdedAt N) ≡ false → false ≡ refusal11 N
+  pub crowded-done : (v : ℕ) → v ≤ n → n ≤ v → any v (crowdedAt N) ≡ false → false ≡ refusal11 N
   unfolding refusal11 network nodesIn
   crowded-done v a b h = some-done (crowdedAt N) n v a b h
 

@@ -11,7 +11,7 @@ use lib.Seq.{getD-set-same, getD-set-other}
 use native.Mathlib.Numerals.{add-one}
 use native.Mathlib.Omega.{arith}
 use Rattle.finite.specs.Tests.{same}
-use Rattle.finite.specs.Range.{some}
+use Rattle.finite.specs.Range.{any}
 use Rattle.finite.specs.Tables.{at, zeros}
 use Rattle.finite.proofs.Cases.{byBool, byEq, clash}
 use Rattle.finite.proofs.Tests.{is-same, not-same, is-beq, test-iff, or-yes-r, not-true, not-false, not-yes}
@@ -80,15 +80,15 @@ module _ (N : Network) (ok : Sound N) where
       apart = byBool (above N allPrincipal a b) (λ t. absurd (omega (arith, above-low N ok allPrincipal a b t d))) (λ t. t)
 
   -- a node is a top exactly when it is on none of the ways
-  pub ways-are : (w : ℕ) → Node N w → isTop N w ≡ not (some size (bridged N w))
-  ways-are w k = test-iff (isTop N w) (not (some size (bridged N w)))
-      (λ t. not-yes _ (byBool (some size (bridged N w)) (λ q. let r = some-at size (bridged N w) q in clash (r .3) (kept t (r .0))) (λ q. q)))
+  pub ways-are : (w : ℕ) → Node N w → isTop N w ≡ not (any size (bridged N w))
+  ways-are w k = test-iff (isTop N w) (not (any size (bridged N w)))
+      (λ t. not-yes _ (byBool (any size (bridged N w)) (λ q. let r = some-at size (bridged N w) q in clash (r .3) (kept t (r .0))) (λ q. q)))
       (λ q. crossed-none (not-true _ q))
     where
       kept : isTop N w ≡ true → (r : ℕ) → bridged N w r ≡ false
       kept t r = plain-way N w r (λ d. top-reticulation N ok w r k t d)
 
-      crossed-none : some size (bridged N w) ≡ false → isTop N w ≡ true
+      crossed-none : any size (bridged N w) ≡ false → isTop N w ≡ true
       crossed-none q = top-by N w (λ r l u d. way-plain N w r d (not-some size (bridged N w) q r l u))
 
 -- climbing from a and b, with what is marked: what was to be marked is marked or still to come
@@ -157,9 +157,9 @@ module _ (n : ℕ) (l t : List ℕ) (ok : Sound (network (nodesIn n l))) (R : Ra
     less-right u d e = omega (arith, step-falls b a hb ha p ib ia eb ea (omega arith) (λ q. d (sym q)) e)
 
 -- one reticulation more, and all
-some-next : (k : ℕ) (f : ℕ → Bool) → some (k + 1) f ≡ (some k f || f (k + 1))
-unfolding some
-some-next k f = rw add-one (byBool (some k f) (λ t. rw t (byBool (f (suc k)) (λ q. rw q) (λ q. rw q))) (λ t. rw t (byBool (f (suc k)) (λ q. rw q) (λ q. rw q))))
+some-next : (k : ℕ) (f : ℕ → Bool) → any (k + 1) f ≡ (any k f || f (k + 1))
+unfolding any
+some-next k f = rw add-one (byBool (any k f) (λ t. rw t (byBool (f (suc k)) (λ q. rw q) (λ q. rw q))) (λ t. rw t (byBool (f (suc k)) (λ q. rw q) (λ q. rw q))))
 
 bridged-none : (N : Network) (w r : ℕ) → N .secondary r ≡ 0 → bridged N w r ≡ false
 bridged-none N w r e = plain-way N w r (λ d. absurd (d e))
@@ -169,7 +169,7 @@ unfolding bridged
 bridged-is N w r d = rw (is-reticulation N r d)
 
 pub ways-none : (N : Network) (marks : List ℕ) → marks ≡ zeros → MarkedWays N marks 0
-unfolding marked some
+unfolding marked any
 ways-none N marks e = record { long = rw e zeros-long; at-each = λ w. rw (e, zeros-at w, is-same {m = 0} refl) }
 
 module _ (n : ℕ) (l : List ℕ) where
@@ -195,7 +195,7 @@ module _ (n : ℕ) (l : List ℕ) where
     pub ways-plain : s ≡ 0 → MarkedWays M before (k + 1)
     ways-plain z = record {
       long = h .long;
-      at-each = λ w. h .at-each w ∙ sym (some-next k (bridged M w) ∙ or-false-r (some k (bridged M w)) (bridged M w (k + 1)) (bridged-none M w (k + 1) (second-none k s u q z)));
+      at-each = λ w. h .at-each w ∙ sym (some-next k (bridged M w) ∙ or-false-r (any k (bridged M w)) (bridged M w (k + 1)) (bridged-none M w (k + 1) (second-none k s u q z)));
     }
 
     pub ways-more : (after : List ℕ) → (s ≡ 0 → ⊥) → MarkedWay M before after (k + 1) s → MarkedWays M after (k + 1)

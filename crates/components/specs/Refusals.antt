@@ -6,7 +6,7 @@ use mathlib.Core.Bool.{Bool, true}
 use mathlib.Core.List.{List, [], _∷_}
 use Prim.Native.Nat.{ℕ, _<_}
 use Rattle.finite.specs.Tests.{under}
-use Rattle.finite.specs.Range.{some, count}
+use Rattle.finite.specs.Range.{any, count}
 use Rattle.finite.specs.Refusals.{Refusal}
 use Rattle.topology.specs.Networks.{Network, Node, Reticulation}
 use Rattle.topology.specs.Components.{Linked, reticulationCount}
@@ -17,7 +17,7 @@ unfoldable pub crowdedAt : Network → ℕ → Bool
 crowdedAt N c = under 8 (reticulationCount N c)
 
 unfoldable pub refusal11 : Network → Bool
-refusal11 N = some (N .size) (crowdedAt N)
+refusal11 N = any (N .size) (crowdedAt N)
 
 -- the reticulations that walks without cut arcs link with a node, told by a test, are more than 8
 pub record Refusal11 (N : Network) : Type 0 where

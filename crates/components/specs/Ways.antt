@@ -7,7 +7,7 @@ use mathlib.Core.List.{List}
 use Prim.Native.Nat.{ℕ, _≤_}
 use lib.ListN.{length}
 use Rattle.finite.specs.Tests.{same}
-use Rattle.finite.specs.Range.{some}
+use Rattle.finite.specs.Range.{any}
 use Rattle.finite.specs.Tables.{at}
 use Rattle.topology.specs.Networks.{Network, Node, isReticulation}
 use Rattle.topology.specs.Switchings.{allPrincipal, above}
@@ -38,7 +38,7 @@ pub record MarkedWay (N : Network) (before after : List ℕ) (x y : ℕ) : Type 
 -- the ways of the reticulations 1..k
 pub record MarkedWays (N : Network) (marks : List ℕ) (k : ℕ) : Type 0 where
   pub long : length marks ≡ 128
-  pub at-each : (w : ℕ) → marked marks w ≡ some k (bridged N w)
+  pub at-each : (w : ℕ) → marked marks w ≡ any k (bridged N w)
 
 -- what is marked is no top
 pub record NonTops (N : Network) (marks : List ℕ) : Type 0 where

@@ -7,7 +7,7 @@ use mathlib.Core.Bool.{Bool, true}
 use Prim.Native.Nat.{ℕ, _-_, _≤_, _<_}
 use native.Mathlib.Omega.{arith}
 use Rattle.finite.specs.Tests.{same}
-use Rattle.finite.specs.Range.{some, count}
+use Rattle.finite.specs.Range.{any, count}
 use Rattle.finite.proofs.Cases.{byBool, byEq, clash, measure}
 use Rattle.finite.proofs.Tests.{is-same, not-same}
 use Rattle.finite.proofs.Every.{some-same}
@@ -29,7 +29,7 @@ pub record SameTree (T U : Displayed) : Type 0 where
   pub lateral : (v : ℕ) → NodeOf U v → T .lateral v ≡ U .lateral v
   pub forks : (v : ℕ) → NodeOf U v → T .forks v ≡ U .forks v
 
-some-like : (m n : ℕ) (f g : ℕ → Bool) → m ≡ n → ((c : ℕ) → 1 ≤ c → c ≤ n → f c ≡ g c) → some m f ≡ some n g
+some-like : (m n : ℕ) (f g : ℕ → Bool) → m ≡ n → ((c : ℕ) → 1 ≤ c → c ≤ n → f c ≡ g c) → any m f ≡ any n g
 some-like m n f g e h = rw e (some-same n f g h)
 
 module _ (T U : Displayed) (okT : Tree T) (okU : Tree U) (E : SameTree T U) where

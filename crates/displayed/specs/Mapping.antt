@@ -6,7 +6,7 @@ use mathlib.Core.Logic.{_≢_}
 use mathlib.Core.Bool.{Bool, true, cond, _&&_, _||_, not}
 use Prim.Native.Nat.{ℕ, zero, suc, _+_, _*_, _≤_}
 use Rattle.finite.specs.Tests.{same, tally}
-use Rattle.finite.specs.Range.{sum, count, some}
+use Rattle.finite.specs.Range.{sum, count, any}
 use Rattle.reconciliation.specs.GeneTrees.{GeneTree}
 use Rattle.reconciliation.specs.Costs.{Costs}
 use Rattle.displayed.specs.Displayed.{Displayed, NodeOf, common, way}
@@ -30,7 +30,7 @@ place T G g = placeIn (G .count) T G g
 
 -- "one of the node's two on arcs is secondary"
 unfoldable pub sends : Displayed → ℕ → Bool
-sends T v = some (T .size) (λ c. T .lateral c && same (T .up c) v)
+sends T v = any (T .size) (λ c. T .lateral c && same (T .up c) v)
 
 module _ (T : Displayed) (G : GeneTree) where
   -- gene g sits at v

@@ -59,7 +59,7 @@ pub record SixColumns (X : Contents) : Type 0 where
 pub record Reported (X : Contents) : Type 0 where
   -- the gene tree is that of the gene lines
   pub genes : GenesOf (X .nodes) (X .genes) (geneTreeIn X)
-  -- demand 2: the genes' lines are "placement, event, transfers, losses" as 01 words them, of the setting reported
+  -- demand 2: the genes' lines are the place, event, transfers and losses that 01 words ("Settings and placement"), under the setting reported
   pub mapped : Mapped (networkIn X) (reported X) (geneTreeIn X) (place (networkIn X) (geneTreeIn X) (reported X)) (event (networkIn X) (geneTreeIn X) (reported X))
       (transfers (networkIn X) (geneTreeIn X) (reported X)) (losses (networkIn X) (geneTreeIn X) (reported X))
   -- the first line's numbers are sums over the genes' lines, and the cost is theirs
@@ -72,7 +72,7 @@ pub record Reported (X : Contents) : Type 0 where
   pub six-columns : SixColumns X
   -- histories go over the same network and gene tree
   pub described : Describes (X .nodes) (X .genes) (geneTreeIn X) (X .costs) (familyIn X)
-  -- demand 3: "every other setting of the whole network .. costs at least as much as the reported one, and at equal cost comes after it"
+  -- demand 3: every other setting of the whole network, across all components, costs at least as much, and at equal cost comes after it
   pub optimal : Optimal (networkIn X) (geneTreeIn X) (X .costs) (reported X)
   -- the search: after t steps the machine's state is what 01 says, for every t up to the trials reported
   pub steps : (t : ℕ) → t < 1 + trials (networkIn X) → AsScored (networkIn X) (geneTreeIn X) (X .costs) t (searchAfter (networkIn X) (geneTreeIn X) (X .costs) t)

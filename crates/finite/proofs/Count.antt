@@ -7,7 +7,7 @@ use mathlib.Core.Bool.{Bool, true, false, not, _&&_, cond}
 use Prim.Native.Nat.{ℕ, zero, suc, _+_, _*_, _≤_, _<_}
 use native.Mathlib.Omega.{arith}
 use Rattle.finite.specs.Tests.{same, tally}
-use Rattle.finite.specs.Range.{sum, count, some, children}
+use Rattle.finite.specs.Range.{sum, count, any, children}
 use Rattle.finite.proofs.Cases.{byBool, byEq, clash}
 use Rattle.finite.proofs.Tests.{is-same, not-same, same-not, and-l, and-r, and-yes, and-no-r, not-true, tally-le, tally-imp}
 use Rattle.finite.proofs.Every.{some-at, some-none}
@@ -93,7 +93,7 @@ abbrev other : ℕ → (ℕ → Bool) → ℕ → Bool
 other a f v = not (same a v) && f v
 
 pub count-another : (n a : ℕ) (f : ℕ → Bool) → 1 ≤ a → a ≤ n → f a ≡ true → count n f ≢ 1 → (v : ℕ) × (1 ≤ v) × (v ≤ n) × (a ≢ v) × (f v ≡ true)
-count-another n a f l u t d = byBool (some n (other a f))
+count-another n a f l u t d = byBool (any n (other a f))
     (λ q. let r = some-at n (other a f) q in (r .0, r .1, r .2, same-not a (r .0) (not-true (same a (r .0)) (and-l _ (f (r .0)) (r .3))), and-r (not (same a (r .0))) _ (r .3)))
     (λ q. absurd (d (count-alone n a f l u t (λ v lv uv tv. byEq a v (λ e. sym e) (λ z. clash tv (rw (not-same z) at (some-none n (other a f) q v lv uv)))))))
 

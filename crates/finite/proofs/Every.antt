@@ -6,7 +6,7 @@ use mathlib.Core.Bool.{Bool, true, false, not}
 use Prim.Native.Nat.{ℕ, zero, suc, _+_, _≤_, _<_}
 use native.Mathlib.Numerals.{add-one}
 use native.Mathlib.Omega.{arith}
-use Rattle.finite.specs.Range.{every, some, first}
+use Rattle.finite.specs.Range.{every, any, first}
 use Rattle.finite.proofs.Cases.{byBool, byEq, byOrder, clash}
 use Rattle.finite.proofs.Tests.{is-same, not-same}
 
@@ -40,29 +40,29 @@ not-every (suc k) f e = byBool (f (suc k))
     (λ t. (suc k, omega arith, omega arith, t))
 
 -- from some index to the test, and back
-pub some-at : (n : ℕ) (f : ℕ → Bool) → some n f ≡ true → (v : ℕ) × (1 ≤ v) × (v ≤ n) × (f v ≡ true)
-unfolding some
+pub some-at : (n : ℕ) (f : ℕ → Bool) → any n f ≡ true → (v : ℕ) × (1 ≤ v) × (v ≤ n) × (f v ≡ true)
+unfolding any
 some-at zero f e = clash e refl
 some-at (suc k) f e = byBool (f (suc k)) (λ t. (suc k, omega arith, omega arith, t))
     (λ t. let r = some-at k f (rw t at e) in (r .0, r .1, omega (arith, r .2), r .3))
 
-pub is-some : (n v : ℕ) (f : ℕ → Bool) → 1 ≤ v → v ≤ n → f v ≡ true → some n f ≡ true
-unfolding some
+pub is-some : (n v : ℕ) (f : ℕ → Bool) → 1 ≤ v → v ≤ n → f v ≡ true → any n f ≡ true
+unfolding any
 is-some zero v f l u t = absurd (omega arith)
 is-some (suc k) v f l u t = byEq v (suc k) (λ e. let q : f (suc k) ≡ true = rw e at t in rw q)
     (λ d. byBool (f (suc k)) (λ q. rw q) (λ q. rw q (is-some k v f l (omega arith) t)))
 
-pub not-some : (n : ℕ) (f : ℕ → Bool) → some n f ≡ false → (v : ℕ) → 1 ≤ v → v ≤ n → f v ≡ false
+pub not-some : (n : ℕ) (f : ℕ → Bool) → any n f ≡ false → (v : ℕ) → 1 ≤ v → v ≤ n → f v ≡ false
 not-some n f e v l u = byBool (f v) (λ t. clash (is-some n v f l u t) e) (λ t. t)
 
 -- some passes just where not each fails
-pub some-every : (n : ℕ) (f : ℕ → Bool) → some n f ≡ not (every n (λ v. not (f v)))
-unfolding some every
+pub some-every : (n : ℕ) (f : ℕ → Bool) → any n f ≡ not (every n (λ v. not (f v)))
+unfolding any every
 some-every zero f = refl
 some-every (suc k) f = byBool (f (suc k)) (λ t. rw t) (λ t. rw t (some-every k f))
 
-pub some-same : (n : ℕ) (f g : ℕ → Bool) → ((v : ℕ) → 1 ≤ v → v ≤ n → f v ≡ g v) → some n f ≡ some n g
-unfolding some
+pub some-same : (n : ℕ) (f g : ℕ → Bool) → ((v : ℕ) → 1 ≤ v → v ≤ n → f v ≡ g v) → any n f ≡ any n g
+unfolding any
 some-same zero f g e = refl
 some-same (suc k) f g e = rw (e (suc k) (omega arith) (omega arith), some-same k f g (λ v l u. e v l (omega arith)))
 
@@ -137,22 +137,22 @@ every-done f n v a b h = let e : v ≡ n = omega arith in sym (rw e at h)
 pub ruleset every-loop = (every-start, every-turn, every-stop, every-turn-not, every-stop-not, every-done)
 
 -- where none passes, each fails
-pub some-none : (n : ℕ) (f : ℕ → Bool) → some n f ≡ false → (v : ℕ) → 1 ≤ v → v ≤ n → f v ≡ false
+pub some-none : (n : ℕ) (f : ℕ → Bool) → any n f ≡ false → (v : ℕ) → 1 ≤ v → v ≤ n → f v ≡ false
 some-none n f e v l u = byBool (f v) (λ t. clash (is-some n v f l u t) e) (λ t. t)
 
 -- the turns of a loop that looks for one of 1..n that passes: r is the test at v + 1
-pub some-start : (f : ℕ → Bool) → some 0 f ≡ false
-unfolding some
+pub some-start : (f : ℕ → Bool) → any 0 f ≡ false
+unfolding any
 some-start f = refl
 
-pub some-turn : (f : ℕ → Bool) (v : ℕ) (r : Bool) → some v f ≡ false → r ≡ f (v + 1) → r ≡ false → some (v + 1) f ≡ false
-unfolding some
+pub some-turn : (f : ℕ → Bool) (v : ℕ) (r : Bool) → any v f ≡ false → r ≡ f (v + 1) → r ≡ false → any (v + 1) f ≡ false
+unfolding any
 some-turn f v r h e t = let q : f (v + 1) ≡ false = sym e ∙ t in rw (add-one) (rw (← add-one, q, h))
 
-pub some-stop : (f : ℕ → Bool) (n v : ℕ) (r : Bool) → v < n → r ≡ f (v + 1) → r ≡ true → true ≡ some n f
+pub some-stop : (f : ℕ → Bool) (n v : ℕ) (r : Bool) → v < n → r ≡ f (v + 1) → r ≡ true → true ≡ any n f
 some-stop f n v r l e t = sym (is-some n (v + 1) f (omega arith) (omega arith) (sym e ∙ t))
 
-pub some-done : (f : ℕ → Bool) (n v : ℕ) → v ≤ n → n ≤ v → some v f ≡ false → false ≡ some n f
+pub some-done : (f : ℕ → Bool) (n v : ℕ) → v ≤ n → n ≤ v → any v f ≡ false → false ≡ any n f
 some-done f n v a b h = let e : v ≡ n = omega arith in sym (rw e at h)
 
 pub ruleset some-loop = (some-start, some-turn, some-stop, some-done)

@@ -19,9 +19,9 @@ every zero f = true
 every (suc k) f = let r = every k f in cond (f (suc k)) r false
 
 -- one of 1..n passes the test
-unfoldable pub some : ℕ → (ℕ → Bool) → Bool
-some zero f = false
-some (suc k) f = let r = some k f in cond (f (suc k)) true r
+unfoldable pub any : ℕ → (ℕ → Bool) → Bool
+any zero f = false
+any (suc k) f = let r = any k f in cond (f (suc k)) true r
 
 -- the lowest of 1..n that passes the test, 0 where none does
 unfoldable pub first : ℕ → (ℕ → Bool) → ℕ

@@ -8,7 +8,7 @@ use mathlib.Core.List.{List}
 use Prim.Native.Nat.{ℕ, _+_, _*_, _≤_, _<_}
 use lib.ListN.{getD}
 use native.Mathlib.Omega.{arith}
-use Rattle.finite.specs.Range.{some, first}
+use Rattle.finite.specs.Range.{any, first}
 use Rattle.finite.proofs.Cases.{byEq}
 use Rattle.finite.proofs.Tests.{is-same, not-same, is-under}
 use Rattle.finite.proofs.Every.{first-start, first-turn, first-stop, first-done, some-start, some-turn, some-stop, some-done}
@@ -89,14 +89,14 @@ module _ (n m : ℕ) (l : List ℕ) where
     unfolding badGeneAt
     gene-read = rw (← parent-read g p u ep, ← (ek ∙ c .counts (g + 1) (gene-is g u))) er
 
-    pub twelve-turn : some g (badGeneAt (genesIn n m l)) ≡ false → r ≡ false → some (g + 1) (badGeneAt (genesIn n m l)) ≡ false
+    pub twelve-turn : any g (badGeneAt (genesIn n m l)) ≡ false → r ≡ false → any (g + 1) (badGeneAt (genesIn n m l)) ≡ false
     twelve-turn h t = some-turn (badGeneAt (genesIn n m l)) g r h gene-read t
 
     pub twelve-stop : r ≡ true → true ≡ refusal12 (genesIn n m l)
     unfolding refusal12 genesIn
     twelve-stop t = some-stop (badGeneAt (genesIn n m l)) m g r u gene-read t
 
-  pub twelve-done : (g : ℕ) → g ≤ m → m ≤ g → some g (badGeneAt (genesIn n m l)) ≡ false → false ≡ refusal12 (genesIn n m l)
+  pub twelve-done : (g : ℕ) → g ≤ m → m ≤ g → any g (badGeneAt (genesIn n m l)) ≡ false → false ≡ refusal12 (genesIn n m l)
   unfolding refusal12 genesIn
   twelve-done g a b h = some-done (badGeneAt (genesIn n m l)) m g a b h
 
@@ -107,14 +107,14 @@ module _ (n m : ℕ) (l : List ℕ) where
     unfolding badSpeciesAt
     species-tested = rw (← species-read g s u es, ← (ek ∙ c .counts (g + 1) (gene-is g u))) er
 
-    pub thirteen-turn : some g (badSpeciesAt (nodesIn n l) (genesIn n m l)) ≡ false → r ≡ false → some (g + 1) (badSpeciesAt (nodesIn n l) (genesIn n m l)) ≡ false
+    pub thirteen-turn : any g (badSpeciesAt (nodesIn n l) (genesIn n m l)) ≡ false → r ≡ false → any (g + 1) (badSpeciesAt (nodesIn n l) (genesIn n m l)) ≡ false
     thirteen-turn h t = some-turn (badSpeciesAt (nodesIn n l) (genesIn n m l)) g r h species-tested t
 
     pub thirteen-stop : r ≡ true → true ≡ refusal13 (nodesIn n l) (genesIn n m l)
     unfolding refusal13 genesIn
     thirteen-stop t = some-stop (badSpeciesAt (nodesIn n l) (genesIn n m l)) m g r u species-tested t
 
-  pub thirteen-done : (g : ℕ) → g ≤ m → m ≤ g → some g (badSpeciesAt (nodesIn n l) (genesIn n m l)) ≡ false → false ≡ refusal13 (nodesIn n l) (genesIn n m l)
+  pub thirteen-done : (g : ℕ) → g ≤ m → m ≤ g → any g (badSpeciesAt (nodesIn n l) (genesIn n m l)) ≡ false → false ≡ refusal13 (nodesIn n l) (genesIn n m l)
   unfolding refusal13 genesIn
   thirteen-done g a b h = some-done (badSpeciesAt (nodesIn n l) (genesIn n m l)) m g a b h
 

@@ -7,7 +7,7 @@ use mathlib.Core.Bool.{Bool, cond, _||_, not}
 use mathlib.Core.List.{List, [], _∷_}
 use Prim.Native.Nat.{ℕ, _≤_}
 use Rattle.finite.specs.Tests.{same, under}
-use Rattle.finite.specs.Range.{some, children}
+use Rattle.finite.specs.Range.{any, children}
 use Rattle.finite.specs.Refusals.{Refusal}
 use Rattle.tables.specs.Children.{next}
 use Rattle.topology.specs.Lines.{Gene, NodeLines, GeneLines}
@@ -28,7 +28,7 @@ unfoldable pub badGeneAt : GeneLines → ℕ → Bool
 badGeneAt K g = badParent g (K .parent g) || badCount (childCount K g)
 
 unfoldable pub refusal12 : GeneLines → Bool
-refusal12 K = some (K .count) (badGeneAt K)
+refusal12 K = any (K .count) (badGeneAt K)
 
 -- 12 as 01 words it
 pub data Refusal12 (K : GeneLines) : Type 0 where
@@ -49,7 +49,7 @@ unfoldable pub badSpeciesAt : NodeLines → GeneLines → ℕ → Bool
 badSpeciesAt L K g = badSpecies L (childCount K g) (K .species g)
 
 unfoldable pub refusal13 : NodeLines → GeneLines → Bool
-refusal13 L K = some (K .count) (badSpeciesAt L K)
+refusal13 L K = any (K .count) (badSpeciesAt L K)
 
 -- 13 as 01 words it; 0 is no species, though nodes other than leaves have it
 pub data Refusal13 (L : NodeLines) (K : GeneLines) : Type 0 where

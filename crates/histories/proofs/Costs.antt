@@ -7,7 +7,7 @@ use Prim.Native.Nat.{ℕ, _+_, _≤_, min}
 use native.Mathlib.Nat.{le-antisymm}
 use native.Mathlib.Omega.{arith}
 use native.Mathlib.Decide.{decLe}
-use Rattle.histories.specs.Histories.{Cost, _⊓_, _⊕_, then, both}
+use Rattle.histories.specs.Histories.{Cost, _lesser_, _⊕_, then, both}
 
 -- a cost is finite, and at most c
 pub data AtMost (c : ℕ) : Cost → Type 0 where
@@ -18,13 +18,13 @@ pub data Attains (P : ℕ → Type 0) : Cost → Type 0 where
   nowhere : Attains P none
   somewhere : {c : ℕ} → P c → Attains P (some c)
 
-pub left : {c : ℕ} {a : Cost} (b : Cost) → AtMost c a → AtMost c (a ⊓ b)
-unfolding _⊓_
+pub left : {c : ℕ} {a : Cost} (b : Cost) → AtMost c a → AtMost c (a lesser b)
+unfolding _lesser_
 left none (within h) = within h
 left (some b) (within {a} h) = within {a = min a b} (omega arith)
 
-pub right : {c : ℕ} (a : Cost) {b : Cost} → AtMost c b → AtMost c (a ⊓ b)
-unfolding _⊓_
+pub right : {c : ℕ} (a : Cost) {b : Cost} → AtMost c b → AtMost c (a lesser b)
+unfolding _lesser_
 right none h = h
 right (some a) (within {a = b} h) = within {a = min a b} (omega arith)
 
@@ -40,8 +40,8 @@ at-both x (within {a} h) (within {a = b} i) l = within {a = x + a + b} (omega ar
 one-of : (a b : ℕ) → (min a b ≡ a) ⊎ (min a b ≡ b)
 one-of a b = elim (decLe a b) [ yes h ↦ inl (omega arith) | no h ↦ inr (omega arith) ]
 
-pub meet : {P : ℕ → Type 0} {a b : Cost} → Attains P a → Attains P b → Attains P (a ⊓ b)
-unfolding _⊓_
+pub meet : {P : ℕ → Type 0} {a b : Cost} → Attains P a → Attains P b → Attains P (a lesser b)
+unfolding _lesser_
 meet nowhere q = q
 meet (somewhere p) nowhere = somewhere p
 meet {P} (somewhere {c = a} p) (somewhere {c = b} q) = somewhere {c = min a b} (either (one-of a b))

@@ -54,7 +54,7 @@ module _ (F : Family) where
     speciate : {g v a b x y : ℕ} → Children g a b → out v ≡ two x y → History a x → History b y → History g v
     -- "or go down one itself (L)"
     speciateLose : {g v x y : ℕ} → Fork v x y → History g x → History g v
-    -- "with one secondary arc, send one child along it while the other stays (T)"
+    -- "with one secondary arc, send one child along it while the other stays", at T
     transferStay : {g v a b x y : ℕ} → Children g a b → out v ≡ mixed x y → History a y → History b v → History g v
     -- "or takes the principal arc (T)"
     transferPart : {g v a b x y : ℕ} → Children g a b → out v ≡ mixed x y → History a y → History b x → History g v
@@ -92,12 +92,12 @@ pub record LeastOverall (F : Family) (c : ℕ) : Type 0 where
   pub cheapest : (v : ℕ) → 1 ≤ v → v ≤ F .nodes → (h : History F 1 v) → c ≤ cost F h
 
 -- the lesser of two costs, and the sum of two
-infixl 20 _⊓_
+infixl 20 _lesser_
 infixl 25 _⊕_
-unfoldable pub _⊓_ : Cost → Cost → Cost
-none ⊓ b = b
-some a ⊓ none = some a
-some a ⊓ some b = some (min a b)
+unfoldable pub _lesser_ : Cost → Cost → Cost
+none lesser b = b
+some a lesser none = some a
+some a lesser some b = some (min a b)
 
 unfoldable pub _⊕_ : Cost → Cost → Cost
 none ⊕ b = none
@@ -124,24 +124,24 @@ resting s (mixed x y) = none
 unfoldable pub parting : ℕ → (A B : ℕ → Cost) → ℕ → Out → Cost
 parting t A B v (leaf s) = none
 parting t A B v (one x) = none
-parting t A B v (two x y) = both 0 (A x) (B y) ⊓ both 0 (B x) (A y)
-parting t A B v (mixed x y) = (both t (A y) (B v) ⊓ both t (B y) (A v)) ⊓ (both t (A y) (B x) ⊓ both t (B y) (A x))
+parting t A B v (two x y) = both 0 (A x) (B y) lesser both 0 (B x) (A y)
+parting t A B v (mixed x y) = (both t (A y) (B v) lesser both t (B y) (A v)) lesser (both t (A y) (B x) lesser both t (B y) (A x))
 
 -- a gene, whose row is G, moves on, for a transfer cost t and a loss cost l
 unfoldable pub moving : ℕ → ℕ → (G : ℕ → Cost) → Out → Cost
 moving t l G (leaf s) = none
 moving t l G (one x) = then 0 (G x)
-moving t l G (two x y) = then l (G x) ⊓ then l (G y)
-moving t l G (mixed x y) = then (t + l) (G y) ⊓ then 0 (G x)
+moving t l G (two x y) = then l (G x) lesser then l (G y)
+moving t l G (mixed x y) = then (t + l) (G y) lesser then 0 (G x)
 
 -- a gene ends at v, for a duplication cost d: it rests, or its children start there, or they part
 unfoldable pub ending : ℕ → ℕ → (W : ℕ → ℕ → Cost) → Gene → ℕ → Out → Cost
 ending d t W (tip s) v o = resting s o
-ending d t W (pair a b) v o = both d (W a v) (W b v) ⊓ parting t (W a) (W b) v o
+ending d t W (pair a b) v o = both d (W a v) (W b v) lesser parting t (W a) (W b) v o
 
 -- a gene g of this kind at a node v with these arcs out ends there or moves on
 unfoldable pub stepping : (d t l : ℕ) → (W : ℕ → ℕ → Cost) → ℕ → Gene → ℕ → Out → Cost
-stepping d t l W g k v o = ending d t W k v o ⊓ moving t l (W g) o
+stepping d t l W g k v o = ending d t W k v o lesser moving t l (W g) o
 
 unfoldable pub clauses : Family → (W : ℕ → ℕ → Cost) → ℕ → ℕ → Cost
 clauses F W g v = stepping (F .costs .duplication) (F .costs .transfer) (F .costs .loss) W g (F .gene g) v (F .out v)
@@ -158,7 +158,7 @@ least F g v = best F (suc (F .genes + F .nodes)) g v
 -- the least of the costs at the nodes 1..k
 unfoldable pub leastOver : ℕ → (ℕ → Cost) → Cost
 leastOver zero f = none
-leastOver (suc k) f = leastOver k f ⊓ f (suc k)
+leastOver (suc k) f = leastOver k f lesser f (suc k)
 
 -- the least cost of gene 1 starting at any node
 unfoldable pub overall : Family → Cost
@@ -166,5 +166,5 @@ overall F = leastOver (F .nodes) (least F 1)
 
 -- whoever unfolds this unfolds all of this file
 unfoldable pub open-Histories : Unit {0}
-unfolding cost _⊓_ _⊕_ then both resting parting moving ending stepping clauses best least leastOver overall
+unfolding cost _lesser_ _⊕_ then both resting parting moving ending stepping clauses best least leastOver overall
 open-Histories = tt

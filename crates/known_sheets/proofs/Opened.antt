@@ -1,7 +1,7 @@
 -- Bundles: whoever unfolds one of these unfolds the definitions of a layer, so that the checker computes them.
 -- Assumes nothing.
 use Rattle.finite.specs.Tests.{same, under}
-use Rattle.finite.specs.Range.{sum, count, every, some, first, children}
+use Rattle.finite.specs.Range.{sum, count, every, any, first, children}
 use Rattle.finite.specs.Least.{firstLeast}
 use Rattle.finite.specs.Tables.{filled}
 use Rattle.finite.specs.Refusals.{verdict}
@@ -28,7 +28,7 @@ use Rattle.family.specs.Families.{networkIn}
 use Rattle.score.specs.Refusals.{bufferRefusals, textRefusals, curatorRefusals}
 
 unfoldable pub open-Finite : Unit {0}
-unfolding same under sum count every some first children firstLeast filled verdict
+unfolding same under sum count every any first children firstLeast filled verdict
 open-Finite = tt
 
 unfoldable pub open-Sheet : Unit {0}

@@ -1,6 +1,6 @@
 -- The known sheets (01, "Known sheets"): cases 1 to 12, in two rows where 01 names two inputs, and the two sheets that 01 names after them. K's report
--- and the numbers quoted are 01's. The lines and words that 01 does not print are from the planners' table, gene lines of cases 3 and 4 worked out
--- again by hand; those of `eight` are worked out from the rules. compare/tests/known_sheets.rs has both implementations agree on cases 1 to 12.
+-- and the numbers quoted are 01's. The lines and words that 01 does not print were worked out from the rules apart from the program, those of cases 3
+-- and 4 and of `eight` by hand. compare/tests/known_sheets.rs has both implementations agree on cases 1 to 12.
 -- Assumes nothing.
 use mathlib.Core.List.{List, [], _∷_, _++_}
 use Prim.Native.Nat.{ℕ}

@@ -199,11 +199,14 @@ fn raise(h: Header, s: Score, p: Pair) -> Score
     r.transfers += left.transfers + right.transfers;
     r.losses += left.losses + right.losses;
     match event {
+        0 => r,
+        1 => r,
         2 => {
             r.duplications += 1;
             r.cost += h.duplication;
             r
         }
+        3 => r,
         _ => r,
     }
 }

@@ -8,7 +8,7 @@ use mathlib.Core.List.{List, []}
 use Prim.Native.Nat.{ℕ, _≤_, _<_}
 use native.Mathlib.Omega.{arith}
 use Rattle.finite.specs.Tests.{same}
-use Rattle.finite.specs.Range.{some, every, children}
+use Rattle.finite.specs.Range.{any, every, children}
 use Rattle.finite.specs.Refusals.{verdict}
 use Rattle.finite.proofs.Cases.{byEq, byLess, clash}
 use Rattle.finite.proofs.Tests.{is-same, same-is, not-same, or-no-l, or-no-r, not-false, tally-le}
@@ -109,7 +109,7 @@ module _ (L : NodeLines) where
         plain-at : (v : ℕ) → Node (network L) v → 1 ≤ children (L .size) (L .principal) v → PlainChild (network L) v
         unfolding refusal10 onlyReticulationsAt reticulationIfChild children network
         plain-at v k l = let f = count-find (L .size) (λ x. same (L .principal x) v) l in
-            let c : some (L .size) (childAt L v) ≡ true = is-some (L .size) (f .0) (childAt L v) (f .1) (f .2) (is-child L v (f .0) (by-principal (same-is _ _ (f .3)))) in
+            let c : any (L .size) (childAt L v) ≡ true = is-some (L .size) (f .0) (childAt L v) (f .1) (f .2) (is-child L v (f .0) (by-principal (same-is _ _ (f .3)))) in
             let q : every (L .size) (reticulationIfChild L v) ≡ false = rw c at (some-none (L .size) (onlyReticulationsAt L) ten v (k .low) (k .high)) in
             found (not-every (L .size) (reticulationIfChild L v) q)
           where

@@ -7,7 +7,7 @@ use mathlib.Core.Bool.{true, not, _&&_}
 use Prim.Native.Nat.{ℕ}
 use native.Mathlib.Omega.{arith}
 use Rattle.finite.specs.Tests.{same, under}
-use Rattle.finite.specs.Range.{some, children}
+use Rattle.finite.specs.Range.{any, children}
 use Rattle.finite.specs.Refusals.{AllTell, one-more}
 use Rattle.finite.proofs.Cases.{byBool, clash}
 use Rattle.finite.proofs.Tests.{is-same, same-is, not-same, same-not, under-is, under-not, and-l, and-r, or-yes-l, or-yes-r, not-true, test-laws}
@@ -46,7 +46,7 @@ module _ (L : NodeLines) where
 
   from-6 : refusal6 L ≡ true → Refusal6 L
   unfolding refusal6
-  from-6 h = byBool (some (L .size) (badParentsAt L)) (λ t. by-some L _ t parents-told)
+  from-6 h = byBool (any (L .size) (badParentsAt L)) (λ t. by-some L _ t parents-told)
       (λ t. not-one-root (λ o. clash (is-same (root-count o)) (not-true _ (rw t at h))))
 
   node-6 : (v : ℕ) → Node (network L) v → badParents (L .size) (L .principal v) (L .secondary v) v ≡ true → refusal6 L ≡ true
@@ -55,7 +55,7 @@ module _ (L : NodeLines) where
 
   pub roots-6 : children (L .size) (L .principal) 0 ≢ 1 → refusal6 L ≡ true
   unfolding refusal6
-  roots-6 d = or-yes-r (some (L .size) (badParentsAt L)) _ (rw (not-same d))
+  roots-6 d = or-yes-r (any (L .size) (badParentsAt L)) _ (rw (not-same d))
 
   to-6 : Refusal6 L → refusal6 L ≡ true
   unfolding badParents

@@ -8,7 +8,7 @@ use mathlib.Core.Bool.{Bool, _&&_, _||_, not}
 use mathlib.Core.List.{List, _∷_}
 use Prim.Native.Nat.{ℕ, _≤_, _<_}
 use Rattle.finite.specs.Tests.{same, under}
-use Rattle.finite.specs.Range.{some, children}
+use Rattle.finite.specs.Range.{any, children}
 use Rattle.finite.specs.Refusals.{Refusal}
 use Rattle.topology.specs.Networks.{Node}
 use Rattle.topology.specs.Lines.{NodeLines, network}
@@ -24,7 +24,7 @@ badParentsAt L v = badParents (L .size) (L .principal v) (L .secondary v) v
 
 -- `children (L .size) (L .principal) 0` nodes have no principal parent
 unfoldable pub refusal6 : NodeLines → Bool
-refusal6 L = some (L .size) (badParentsAt L) || not (same (children (L .size) (L .principal) 0) 1)
+refusal6 L = any (L .size) (badParentsAt L) || not (same (children (L .size) (L .principal) 0) 1)
 
 pub record OneRoot (L : NodeLines) : Type 0 where
   pub root : ℕ
@@ -49,7 +49,7 @@ unfoldable pub badStampsAt : NodeLines → ℕ → Bool
 badStampsAt L v = badStamps (L .principal v) (L .secondary v) (L .stamp (L .principal v)) (L .stamp (L .secondary v)) (L .stamp v)
 
 unfoldable pub refusal7 : NodeLines → Bool
-refusal7 L = some (L .size) (badStampsAt L)
+refusal7 L = any (L .size) (badStampsAt L)
 
 pub data Refusal7 (L : NodeLines) : Type 0 where
   principal-not-below : (v : ℕ) → Node (network L) v → L .principal v ≢ 0 → L .stamp v ≤ L .stamp (L .principal v) → Refusal7 L

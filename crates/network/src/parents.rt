@@ -8,7 +8,7 @@ use text_lines::FIELDS;
 ghost use mathlib.Core.Path.{_≡_};
 ghost use mathlib.Core.Bool.{false};
 ghost use Prim.Native.Nat.{_≤_};
-ghost use Rattle.finite.specs.Range.{some};
+ghost use Rattle.finite.specs.Range.{any};
 ghost use Rattle.layout.specs.Lines.{nodesIn};
 ghost use Rattle.network.specs.Refusals.{badParents, badParentsAt, refusal6, badStamps, badStampsAt, refusal7};
 
@@ -37,7 +37,7 @@ fn bad_parents(n: usize, p: usize, s: usize, v: usize) -> bool
 // Whether some node has bad parents.
 fn some_bad_parents(n: usize, lines: &Lines) -> bool
     requires { ⌜ n ≤ 127 ⌝ }
-    ensures { λ r. ⌜ r ≡ some n (badParentsAt (nodesIn n (now (lines .entry)))) ⌝ }
+    ensures { λ r. ⌜ r ≡ any n (badParentsAt (nodesIn n (now (lines .entry)))) ⌝ }
 {
     let mut v: usize = 0;
     while v < n {

@@ -1,4 +1,4 @@
--- What is written for a sheet (01, first paragraph): "a report, or the word `refused`, the refusal number in six columns and a line feed".
+-- What is written for a sheet (01, first paragraph): "one report, or the word `refused`, the refusal number in six columns and a line feed".
 -- Assumes nothing.
 use mathlib.Core.Path.{_≡_}
 use mathlib.Core.Bool.{cond}

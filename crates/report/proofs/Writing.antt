@@ -195,10 +195,10 @@ pub genes-room : (n m l next last k : ℕ) (test : ℕ → Bool) → reportLengt
 unfolding reportLength
 genes-room n m l next last k test h e q p = omega arith
 
-pub length-report : (t : Totals) (n m : ℕ) (reticulation : ℕ → Bool) (taken second top counts place event transfers losses : ℕ → ℕ)
-    → length (reportOf t n m reticulation taken second top counts place event transfers losses) ≡ reportLength n m reticulation
+pub length-report : (t : Totals) (n m : ℕ) (reticulation : ℕ → Bool) (taken second top counts seat code moved lost : ℕ → ℕ)
+    → length (reportOf t n m reticulation taken second top counts seat code moved lost) ≡ reportLength n m reticulation
 unfolding reportOf reportLength totalsLines
-length-report t n m reticulation taken second top counts place event transfers losses =
+length-report t n m reticulation taken second top counts seat code moved lost =
     rw (
       length-append,
       length-append,
@@ -206,7 +206,7 @@ length-report t n m reticulation taken second top counts place event transfers l
       length-line (fiveOf (t .cost) (t .duplications) (t .transfers) (t .losses) (t .trials)),
       length-line (fiveOf (t .whole) (t .nodes) (t .genes) (t .reticulations) (t .components)),
       length-lines reticulation (reticulationFields taken second top counts) n,
-      length-lines always (geneFields place event transfers losses) m,
+      length-lines always (geneFields seat code moved lost) m,
       count-always m,
     ) (omega arith)
 

@@ -50,17 +50,17 @@ abbrev pub always : ℕ → Bool
 always g = true
 
 -- "for each reticulation, rising: node, parent taken, 1 if secondary else 0, top of its component, reticulations there"
-abbrev pub reticulationFields : (taken second top count : ℕ → ℕ) → ℕ → List ℕ
-reticulationFields taken second top count v = fiveOf v (taken v) (second v) (top v) (count (top v))
+abbrev pub reticulationFields : (taken second top held : ℕ → ℕ) → ℕ → List ℕ
+reticulationFields taken second top held v = fiveOf v (taken v) (second v) (top v) (held (top v))
 
 -- "for each gene: gene, place, event, transfers and losses on the way from its parent gene"
 abbrev pub geneFields : (place event transfers losses : ℕ → ℕ) → ℕ → List ℕ
 geneFields place event transfers losses g = fiveOf g (place g) (event g) (transfers g) (losses g)
 
 -- the whole report
-unfoldable pub reportOf : Totals → (n m : ℕ) → (ℕ → Bool) → (taken second top count place event transfers losses : ℕ → ℕ) → List ℕ
-reportOf t n m reticulation taken second top count place event transfers losses = totalsLines t
-    ++ linesWhere reticulation (reticulationFields taken second top count) n
+unfoldable pub reportOf : Totals → (n m : ℕ) → (ℕ → Bool) → (taken second top held place event transfers losses : ℕ → ℕ) → List ℕ
+reportOf t n m reticulation taken second top held place event transfers losses = totalsLines t
+    ++ linesWhere reticulation (reticulationFields taken second top held) n
     ++ linesWhere always (geneFields place event transfers losses) m
 
 -- its bytes

@@ -41,7 +41,7 @@ pub record Outcome (k : ℕ) (X : Contents) (d e u t : List ℕ) (r : Answer) : 
 
 -- what each case of the answer says of the sheet, of the result and the scratch before and after the call, and of its number
 module _ (sheet result resultAfter scratch scratchAfter : List ℕ) where
-  -- "A refusal returns its number; the first that applies is given; result and scratch are untouched"
+  -- "the first that applies is given. A refusal returns its number; result and scratch are untouched"
   pub record IsRefused (k : ℕ) : Type 0 where
     pub low : 1 ≤ k
     pub high : k ≤ 13

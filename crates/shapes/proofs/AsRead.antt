@@ -8,7 +8,7 @@ use mathlib.Core.List.{List}
 use Prim.Native.Nat.{ℕ, _≤_, _<_}
 use native.Mathlib.Omega.{arith}
 use Rattle.finite.specs.Tests.{same}
-use Rattle.finite.specs.Range.{some, children}
+use Rattle.finite.specs.Range.{any, children}
 use Rattle.finite.proofs.Tests.{is-same, not-same, told-not-yes, told-not-no}
 use Rattle.finite.proofs.Every.{some-same}
 use Rattle.finite.proofs.Count.{count-le}
@@ -27,7 +27,7 @@ pub only-told : (t : List ℕ) (v : ℕ) {a b k : ℕ} {r : Bool} → a ≡ prin
 unfolding onlyReticulationsIn
 only-told t v ea eb ek e = e ∙ rw (ea, eb, ek)
 
-only-is : (L : NodeLines) (t : List ℕ) → Counts L t → some (L .size) (onlyReticulationsIn t) ≡ refusal10 L
+only-is : (L : NodeLines) (t : List ℕ) → Counts L t → any (L .size) (onlyReticulationsIn t) ≡ refusal10 L
 unfolding refusal10 onlyReticulationsIn
 only-is L t counts = some-same (L .size) _ _ (λ v a b. rw (counts .principal-arcs v a b, counts .secondary-arcs v a b, counts .plain-arcs v a b) (only-iff L v a))
 
@@ -84,7 +84,7 @@ module _ (l : List ℕ) {n : ℕ} where
   bearers-read counts {k} d u e = e ∙ counts .same-species k (omega arith) (rw (size-in n l) u) ∙ bearers-in n l k
 
 -- 10 by the counts of each node
-pub only-read : (n : ℕ) (l : List ℕ) {t : List ℕ} → Counts (nodesIn n l) t → some n (onlyReticulationsIn t) ≡ refusal10 (nodesIn n l)
+pub only-read : (n : ℕ) (l : List ℕ) {t : List ℕ} → Counts (nodesIn n l) t → any n (onlyReticulationsIn t) ≡ refusal10 (nodesIn n l)
 unfolding nodesIn
 only-read n l {t} counts = only-is (nodesIn n l) t counts
 

@@ -7,7 +7,7 @@ use mathlib.Core.Bool.{Bool, true, false, not, _&&_, _||_}
 use Prim.Native.Nat.{ℕ, _<_}
 use native.Mathlib.Omega.{arith}
 use Rattle.finite.specs.Tests.{same, under}
-use Rattle.finite.specs.Range.{some, every, children}
+use Rattle.finite.specs.Range.{any, every, children}
 use Rattle.finite.specs.Refusals.{AllTell, no-more, one-more}
 use Rattle.finite.proofs.Cases.{byBool, clash}
 use Rattle.finite.proofs.Tests.{is-same, same-is, not-same, same-not, is-under, under-is, and-l, and-r, and-yes, or-yes-l, or-yes-r, or-r, not-true, not-false, not-yes, not-no}
@@ -122,19 +122,19 @@ module _ (L : NodeLines) where
 
   from-9 : refusal9 L ≡ true → Refusal9 L
   unfolding refusal9
-  from-9 h = byBool (some (L .size) without)
+  from-9 h = byBool (any (L .size) without)
       (λ t. by-some L without t (λ v k q. leaf-without v k (leaf-at-is v (and-l _ (same (L .species v) 0) q)) (same-is _ _ (and-r (leafAt L v) _ q))))
-      (λ a. byBool (some (L .size) otherWith)
+      (λ a. byBool (any (L .size) otherWith)
       (λ t. by-some L otherWith t (λ v k q. other-with v k (leaf-at-not v (not-true _ (and-l _ (not (same (L .species v) 0)) q))) (same-not _ _ (not-true _ (and-r (not (leafAt L v)) _ q)))))
-      (λ b. let t : some (L .size) (λ v. some (L .size) (alike v)) ≡ true = rw (a, b) at h in
-      by-some L (λ v. some (L .size) (alike v)) t (λ v k q. by-some L (alike v) q (λ w j z. alike-told v w k j z))))
+      (λ b. let t : any (L .size) (λ v. any (L .size) (alike v)) ≡ true = rw (a, b) at h in
+      by-some L (λ v. any (L .size) (alike v)) t (λ v k q. by-some L (alike v) q (λ w j z. alike-told v w k j z))))
 
   to-9 : Refusal9 L → refusal9 L ≡ true
   unfolding refusal9
   to-9 (leaf-without v k f e) = or-yes-l _ _ (or-yes-l _ _ (some-node L without v k (rw (is-leaf-at v f, is-same e))))
-  to-9 (other-with v k f d) = or-yes-l _ _ (or-yes-r (some (L .size) without) _ (some-node L otherWith v k (rw (not-leaf-at v f, not-same d))))
-  to-9 (two-alike v w k j d f g e) = or-yes-r (some (L .size) without || some (L .size) otherWith) _
-      (some-node L (λ v. some (L .size) (alike v)) v k (some-node L (alike v) w j (rw (is-leaf-at v f, is-leaf-at w g, not-same d, is-same e))))
+  to-9 (other-with v k f d) = or-yes-l _ _ (or-yes-r (any (L .size) without) _ (some-node L otherWith v k (rw (not-leaf-at v f, not-same d))))
+  to-9 (two-alike v w k j d f g e) = or-yes-r (any (L .size) without || any (L .size) otherWith) _
+      (some-node L (λ v. any (L .size) (alike v)) v k (some-node L (alike v) w j (rw (is-leaf-at v f, is-leaf-at w g, not-same d, is-same e))))
 
   pub reading-9 : (refusal9 L ≡ true) ↔ Refusal9 L
   reading-9 = (from-9, to-9)
@@ -158,7 +158,7 @@ module _ (L : NodeLines) where
     child-node = j;
     is-child = child-is v w q;
     all-reticulations = λ x i f. same-not _ _ (not-true _ (or-r (not (childAt L v x)) _
-        (every-at (L .size) (reticulationIfChild L v) (and-r (some (L .size) (childAt L v)) _ t) x (i .low) (node-high L x i)) (not-no _ (is-child v x f))));
+        (every-at (L .size) (reticulationIfChild L v) (and-r (any (L .size) (childAt L v)) _ t) x (i .low) (node-high L x i)) (not-no _ (is-child v x f))));
   })
 
   only-is : (r : Refusal10 L) → onlyReticulationsAt L (r .node) ≡ true

@@ -7,7 +7,7 @@ use mathlib.Core.Bool.{Bool, true, false, not, _&&_, _||_}
 use Prim.Native.Nat.{ℕ, _+_, _≤_}
 use native.Mathlib.Omega.{arith}
 use Rattle.finite.specs.Tests.{same, under}
-use Rattle.finite.specs.Range.{some, every, children}
+use Rattle.finite.specs.Range.{any, every, children}
 use Rattle.finite.proofs.Cases.{byBool, byEq, clash}
 use Rattle.finite.proofs.Tests.{is-same, same-is, not-same, same-not, is-under, not-under, test-iff, or-yes-l, or-yes-r, or-r, not-true, not-yes, not-no}
 use Rattle.finite.proofs.Every.{some-at, is-some, every-at, is-every}
@@ -64,7 +64,7 @@ module _ (L : NodeLines) where
           (λ q. two-alike v (r .0) k j (r .3) (leaf-at-is L v t) (leaf-at-is L (r .0) q) (sym e))
           (λ q. other-with (r .0) j (leaf-at-not L (r .0) q) (λ z. d (sym e ∙ z)))
 
-  wrong-is : Refusal9 L → some (L .size) (wrongSpeciesAt L) ≡ true
+  wrong-is : Refusal9 L → any (L .size) (wrongSpeciesAt L) ≡ true
   unfolding wrongSpeciesAt wrongSpecies children
   wrong-is (leaf-without v k f e) = is-some (L .size) v (wrongSpeciesAt L) (k .low) (node-high L v k) (rw (is-leaf-at L v f, is-same e))
   wrong-is (other-with v k f d) = is-some (L .size) v (wrongSpeciesAt L) (k .low) (node-high L v k) (rw (not-leaf-at L v f, not-same d))
@@ -74,8 +74,8 @@ module _ (L : NodeLines) where
         count-two (L .size) v w (bears (L .species v)) (k .low) (node-high L v k) (j .low) (node-high L w j) d (is-same {m = L .species v} refl) (is-same (sym e)),
       ))))))
 
-  pub wrong-iff : some (L .size) (wrongSpeciesAt L) ≡ refusal9 L
-  wrong-iff = test-iff (some (L .size) (wrongSpeciesAt L)) (refusal9 L)
+  pub wrong-iff : any (L .size) (wrongSpeciesAt L) ≡ refusal9 L
+  wrong-iff = test-iff (any (L .size) (wrongSpeciesAt L)) (refusal9 L)
       (λ t. let r = some-at (L .size) (wrongSpeciesAt L) t in reading-9 L .1 (wrong-told (r .0) (node-of L (r .0) (r .1) (r .2)) (r .3)))
       (λ t. wrong-is (reading-9 L .0 t))
 
@@ -101,9 +101,9 @@ module _ (L : NodeLines) (v : ℕ) (l : 1 ≤ v) where
   is-plain w e = byEq (L .secondary w) 0 (λ z. (z, by-principal (rw (is-same z) at e)))
       (λ d. absurd (let q : 0 ≡ v = rw (not-same d) at e in omega arith))
 
-  has-child : some (L .size) (childAt L v) ≡ (not (same a 0) || not (same b 0))
+  has-child : any (L .size) (childAt L v) ≡ (not (same a 0) || not (same b 0))
   unfolding children
-  has-child = test-iff (some (L .size) (childAt L v)) (not (same a 0) || not (same b 0))
+  has-child = test-iff (any (L .size) (childAt L v)) (not (same a 0) || not (same b 0))
       (λ t. let r = some-at (L .size) (childAt L v) t in counted (r .0) (r .1) (r .2) (child-is L v (r .0) (r .3)))
       (λ t. byEq a 0 (λ z. found-secondary (same-not _ _ (not-true _ (rw (is-same z) at t)))) found-principal)
     where
@@ -111,10 +111,10 @@ module _ (L : NodeLines) (v : ℕ) (l : 1 ≤ v) where
       counted w lw uw (by-principal e) = or-yes-l _ _ (not-yes _ (not-same (λ z. omega (arith, count-some (L .size) w (λ x. same (L .principal x) v) lw uw (is-same e)))))
       counted w lw uw (by-secondary e) = or-yes-r (not (same a 0)) _ (not-yes _ (not-same (λ z. omega (arith, count-some (L .size) w (λ x. same (L .secondary x) v) lw uw (is-same e)))))
 
-      found-principal : a ≢ 0 → some (L .size) (childAt L v) ≡ true
+      found-principal : a ≢ 0 → any (L .size) (childAt L v) ≡ true
       found-principal d = let f = count-find (L .size) (λ x. same (L .principal x) v) (omega arith) in is-some (L .size) (f .0) (childAt L v) (f .1) (f .2) (is-child L v (f .0) (by-principal (same-is _ _ (f .3))))
 
-      found-secondary : b ≢ 0 → some (L .size) (childAt L v) ≡ true
+      found-secondary : b ≢ 0 → any (L .size) (childAt L v) ≡ true
       found-secondary d = let f = count-find (L .size) (λ x. same (L .secondary x) v) (omega arith) in is-some (L .size) (f .0) (childAt L v) (f .1) (f .2) (is-child L v (f .0) (by-secondary (same-is _ _ (f .3))))
 
   none-plain : every (L .size) (reticulationIfChild L v) ≡ same k 0

@@ -7,7 +7,7 @@ use mathlib.Core.Bool.{Bool, _&&_, _||_, not}
 use mathlib.Core.List.{List, [], _∷_}
 use Prim.Native.Nat.{ℕ, _+_, _≤_}
 use Rattle.finite.specs.Tests.{same, under}
-use Rattle.finite.specs.Range.{some, every, children}
+use Rattle.finite.specs.Range.{any, every, children}
 use Rattle.finite.specs.Refusals.{Refusal}
 use Rattle.topology.specs.Networks.{Network, Node}
 use Rattle.topology.specs.Lines.{NodeLines, network}
@@ -31,7 +31,7 @@ unfoldable pub shapelessAt : NodeLines → ℕ → Bool
 shapelessAt L v = shapeless (L .principal v) (L .secondary v) (children (L .size) (L .principal) v) (children (L .size) (L .secondary) v)
 
 unfoldable pub refusal8 : NodeLines → Bool
-refusal8 L = some (L .size) (shapelessAt L)
+refusal8 L = any (L .size) (shapelessAt L)
 
 -- node v of a network: `children (N .size) (N .principal) v` principal arcs leave it, and `children (N .size) (N .secondary) v` secondary ones
 pub record IsReticulation (N : Network) (v : ℕ) : Type 0 where
@@ -66,9 +66,9 @@ leafAt L v = leafWith (L .secondary v) (children (L .size) (L .principal) v) (ch
 
 unfoldable pub refusal9 : NodeLines → Bool
 refusal9 L =
-    some (L .size) (λ v. leafAt L v && same (L .species v) 0)
-    || some (L .size) (λ v. not (leafAt L v) && not (same (L .species v) 0))
-    || some (L .size) (λ v. some (L .size) (λ w. leafAt L v && leafAt L w && not (same v w) && same (L .species v) (L .species w)))
+    any (L .size) (λ v. leafAt L v && same (L .species v) 0)
+    || any (L .size) (λ v. not (leafAt L v) && not (same (L .species v) 0))
+    || any (L .size) (λ v. any (L .size) (λ w. leafAt L v && leafAt L w && not (same v w) && same (L .species v) (L .species w)))
 
 pub data Refusal9 (L : NodeLines) : Type 0 where
   leaf-without : (v : ℕ) → Node (network L) v → IsLeaf (network L) v → L .species v ≡ 0 → Refusal9 L
@@ -87,10 +87,10 @@ unfoldable pub reticulationIfChild : NodeLines → (v w : ℕ) → Bool
 reticulationIfChild L v w = not (childAt L v w) || not (same (L .secondary w) 0)
 
 unfoldable pub onlyReticulationsAt : NodeLines → ℕ → Bool
-onlyReticulationsAt L v = some (L .size) (childAt L v) && every (L .size) (reticulationIfChild L v)
+onlyReticulationsAt L v = any (L .size) (childAt L v) && every (L .size) (reticulationIfChild L v)
 
 unfoldable pub refusal10 : NodeLines → Bool
-refusal10 L = some (L .size) (onlyReticulationsAt L)
+refusal10 L = any (L .size) (onlyReticulationsAt L)
 
 pub data Child (L : NodeLines) (v w : ℕ) : Type 0 where
   by-principal : L .principal w ≡ v → Child L v w

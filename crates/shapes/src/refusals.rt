@@ -14,7 +14,7 @@ use text_lines::FIELDS;
 ghost use mathlib.Core.Path.{_≡_};
 ghost use mathlib.Core.Logic.{_≢_};
 ghost use Prim.Native.Nat.{_≤_};
-ghost use Rattle.finite.specs.Range.{some, children};
+ghost use Rattle.finite.specs.Range.{any, children};
 ghost use Rattle.layout.specs.Lines.{nodesIn, nodeSpecies};
 ghost use Rattle.shapes.specs.Refusals.{leafWith, shapeless, refusal8, refusal9};
 ghost use Rattle.shapes.specs.ShortForms.{wrongSpeciesAt, onlyReticulations};
@@ -133,7 +133,7 @@ fn only_reticulations(a: usize, b: usize, k: usize) -> bool
 // 10, by the counts alone.
 pub fn ten(n: usize, counts: &Table) -> bool
     requires { ⌜ n ≤ 127 ⌝ }
-    ensures { λ r. ⌜ r ≡ some n (onlyReticulationsIn (now (counts .entry))) ⌝ }
+    ensures { λ r. ⌜ r ≡ any n (onlyReticulationsIn (now (counts .entry))) ⌝ }
 {
     let mut v: usize = 0;
     while v < n {

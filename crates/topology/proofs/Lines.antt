@@ -5,7 +5,7 @@ use mathlib.Core.Bool.{Bool, true}
 use mathlib.Core.Logic.{_≢_}
 use Prim.Native.Nat.{ℕ, _≤_}
 use native.Mathlib.Omega.{arith}
-use Rattle.finite.specs.Range.{some}
+use Rattle.finite.specs.Range.{any}
 use Rattle.finite.proofs.Tests.{is-same, not-same}
 use Rattle.finite.proofs.Every.{some-at, is-some}
 use Rattle.topology.specs.Networks.{Node}
@@ -45,8 +45,8 @@ module _ (L : NodeLines) where
   node-high v k = k .high
 
   -- a test that some node passes
-  pub some-node : (f : ℕ → Bool) (v : ℕ) → Node (network L) v → f v ≡ true → some (L .size) f ≡ true
+  pub some-node : (f : ℕ → Bool) (v : ℕ) → Node (network L) v → f v ≡ true → any (L .size) f ≡ true
   some-node f v k t = is-some (L .size) v f (k .low) (node-high v k) t
 
-  pub by-some : {A : Type 0} (f : ℕ → Bool) → some (L .size) f ≡ true → ((v : ℕ) → Node (network L) v → f v ≡ true → A) → A
+  pub by-some : {A : Type 0} (f : ℕ → Bool) → any (L .size) f ≡ true → ((v : ℕ) → Node (network L) v → f v ≡ true → A) → A
   by-some f e g = let r = some-at (L .size) f e in g (r .0) (node-of (r .0) (r .1) (r .2)) (r .3)

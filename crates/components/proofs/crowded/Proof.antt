@@ -5,7 +5,7 @@ use mathlib.Core.Path.{_≡_}
 use mathlib.Core.Bool.{false}
 use Rattle.topology.specs.Lines.{network}
 use Rattle.layout.specs.Lines.{nodesIn}
-use Rattle.finite.specs.Range.{some}
+use Rattle.finite.specs.Range.{any}
 use Rattle.finite.proofs.Every.{some-start}
 use Rattle.components.specs.Refusals.{crowdedAt}
 use Rattle.components.proofs.Filling.{crowded-stop, crowded-turn, crowded-done}
@@ -14,7 +14,7 @@ use Rattle.components.proofs.crowded.Statement.{statement}
 use Rattle.components.proofs.crowded.Tie as tie
 
 abbrev Inv-loop : tie.InvT-loop
-Inv-loop n lines parts v₀ v = (v ≤ n) × (some v (crowdedAt (network (nodesIn n lines))) ≡ false)
+Inv-loop n lines parts v₀ v = (v ≤ n) × (any v (crowdedAt (network (nodesIn n lines))) ≡ false)
 
 abbrev μ-loop : tie.MeasureT-loop
 μ-loop n lines parts v₀ v = n - v

@@ -3,7 +3,7 @@
 use Prim.Native.Nat.{_-_, _≤_}
 use mathlib.Core.Path.{_≡_}
 use mathlib.Core.Bool.{false}
-use Rattle.finite.specs.Range.{some}
+use Rattle.finite.specs.Range.{any}
 use Rattle.layout.specs.Lines.{nodesIn, genesIn}
 use Rattle.gene_tree.specs.Refusals.{badSpeciesAt}
 use Rattle.gene_tree.proofs.Reading.{thirteen-loop}
@@ -12,7 +12,7 @@ use Rattle.gene_tree.proofs.thirteen.Statement.{statement}
 use Rattle.gene_tree.proofs.thirteen.Tie as tie
 
 abbrev Inv-loop : tie.InvT-loop
-Inv-loop n m lines work g₀ g = (g ≤ m) × (some g (badSpeciesAt (nodesIn n lines) (genesIn n m lines)) ≡ false)
+Inv-loop n m lines work g₀ g = (g ≤ m) × (any g (badSpeciesAt (nodesIn n lines) (genesIn n m lines)) ≡ false)
 
 abbrev μ-loop : tie.MeasureT-loop
 μ-loop n m lines work g₀ g = m - g

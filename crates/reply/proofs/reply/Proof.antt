@@ -1,6 +1,7 @@
 -- The answer to what was read is the reply to the whole text: proofs/Replying.
 -- Assumes nothing.
 use mathlib.Core.Path.{sym}
+use native.Mathlib.Omega.{arith}
 use lib.Seq.{length-take-le}
 use Rattle.reply.proofs.Replying.{replied-report, replied-refused, refusal-fits}
 use borrow.Author.Needs.{needs}
@@ -26,7 +27,8 @@ write-refusal-requires : tie.Need-write-refusal-requires
 write-refusal-requires c κs =
     let a = c .before .before .before .before .before .before .before .before .before .before .before .before .before .pre in
     let x = c .before .before .before .before .before .before .before .before .before .before .before .before .before .args in
-    refusal-fits (x .text .now) (x .bytes) _ _ _ _ _ (a .0) (a .2) (search needs) (c .before .before .before .before .before .before .before .score .ensures) _ (c .before .before .answer2 .given .1)
+    let f = refusal-fits (x .text .now) (x .bytes) _ _ _ _ _ (a .0) (a .2) (search needs) (c .before .before .before .before .before .before .before .score .ensures) _ (c .before .before .answer2 .given .1) in
+    (omega (arith, f .0), f .1)
 
 same-length : tie.Need-same-length
 same-length c = search needs

@@ -3,7 +3,7 @@
 use Prim.Native.Nat.{_-_, _≤_}
 use mathlib.Core.Path.{_≡_}
 use mathlib.Core.Bool.{false}
-use Rattle.finite.specs.Range.{some}
+use Rattle.finite.specs.Range.{any}
 use Rattle.finite.proofs.Every.{some-loop}
 use Rattle.layout.specs.Lines.{nodesIn}
 use Rattle.network.specs.Refusals.{refusal7, badStampsAt}
@@ -12,7 +12,7 @@ use Rattle.network.proofs.parents.seven.Statement.{statement}
 use Rattle.network.proofs.parents.seven.Tie as tie
 
 abbrev Inv-loop : tie.InvT-loop
-Inv-loop n lines v₀ v = (v ≤ n) × (some v (badStampsAt (nodesIn n lines)) ≡ false)
+Inv-loop n lines v₀ v = (v ≤ n) × (any v (badStampsAt (nodesIn n lines)) ≡ false)
 
 abbrev μ-loop : tie.MeasureT-loop
 μ-loop n lines v₀ v = n - v

@@ -3,7 +3,7 @@
 use Prim.Native.Nat.{_-_, _≤_}
 use mathlib.Core.Path.{_≡_}
 use mathlib.Core.Bool.{false}
-use Rattle.finite.specs.Range.{some}
+use Rattle.finite.specs.Range.{any}
 use Rattle.finite.proofs.Every.{some-start, some-turn, some-stop, some-done}
 use Rattle.layout.specs.Lines.{nodesIn}
 use Rattle.network.specs.Refusals.{badParentsAt}
@@ -13,7 +13,7 @@ use Rattle.network.proofs.parents.some_bad_parents.Statement.{statement
 use Rattle.network.proofs.parents.some_bad_parents.Tie as tie
 
 abbrev Inv-loop : tie.InvT-loop
-Inv-loop n lines v₀ v = (v ≤ n) × (some v (badParentsAt (nodesIn n lines)) ≡ false)
+Inv-loop n lines v₀ v = (v ≤ n) × (any v (badParentsAt (nodesIn n lines)) ≡ false)
 
 abbrev μ-loop : tie.MeasureT-loop
 μ-loop n lines v₀ v = n - v

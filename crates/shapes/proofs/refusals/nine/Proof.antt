@@ -3,7 +3,7 @@
 use Prim.Native.Nat.{_-_, _≤_}
 use mathlib.Core.Path.{_≡_, _∙_}
 use mathlib.Core.Bool.{false}
-use Rattle.finite.specs.Range.{some}
+use Rattle.finite.specs.Range.{any}
 use Rattle.finite.proofs.Every.{some-stop, some-done, some-loop}
 use Rattle.layout.specs.Lines.{nodesIn}
 use Rattle.shapes.specs.ShortForms.{wrongSpeciesAt}
@@ -13,7 +13,7 @@ use Rattle.shapes.proofs.refusals.nine.Statement.{statement}
 use Rattle.shapes.proofs.refusals.nine.Tie as tie
 
 abbrev Inv-loop : tie.InvT-loop
-Inv-loop n lines counts v₀ v = (v ≤ n) × (some v (wrongSpeciesAt (nodesIn n lines)) ≡ false)
+Inv-loop n lines counts v₀ v = (v ≤ n) × (any v (wrongSpeciesAt (nodesIn n lines)) ≡ false)
 
 abbrev μ-loop : tie.MeasureT-loop
 μ-loop n lines counts v₀ v = n - v

@@ -3,7 +3,7 @@
 use Prim.Native.Nat.{_-_, _≤_}
 use mathlib.Core.Path.{_≡_}
 use mathlib.Core.Bool.{false}
-use Rattle.finite.specs.Range.{some}
+use Rattle.finite.specs.Range.{any}
 use Rattle.finite.proofs.Every.{some-start, some-turn, some-stop, some-done}
 use Rattle.shapes.specs.Counts.{onlyReticulationsIn}
 use Rattle.shapes.proofs.AsRead.{only-told}
@@ -12,7 +12,7 @@ use Rattle.shapes.proofs.refusals.ten.Statement.{statement}
 use Rattle.shapes.proofs.refusals.ten.Tie as tie
 
 abbrev Inv-loop : tie.InvT-loop
-Inv-loop n counts v₀ v = (v ≤ n) × (some v (onlyReticulationsIn counts) ≡ false)
+Inv-loop n counts v₀ v = (v ≤ n) × (any v (onlyReticulationsIn counts) ≡ false)
 
 abbrev μ-loop : tie.MeasureT-loop
 μ-loop n counts v₀ v = n - v
