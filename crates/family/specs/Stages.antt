@@ -23,15 +23,9 @@ use Rattle.gene_tree.specs.Genes.{geneTreeOf}
 use Rattle.histories.specs.Words.{words}
 use Rattle.report.specs.declared.Totals.{Totals}
 use Rattle.search.specs.declared.Found.{Found}
+use Rattle.family.specs.Buffers.{leastWords, leastBytes}
 use Rattle.family.specs.Families.{Contents, familyIn}
 use Rattle.family.specs.Reports.{reportIn}
-
--- the words that the table of 127 genes and nodes takes, and the bytes of the longest report (refusals 1 and 2)
-abbrev pub leastWords : ℕ
-leastWords = 16129
-
-abbrev pub leastBytes : ℕ
-leastBytes = 5952
 
 -- what a header and the numbers of the lines say
 abbrev pub contentsBy : Header → List ℕ → Contents

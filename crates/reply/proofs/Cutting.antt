@@ -11,7 +11,7 @@ use lib.Seq.{length-take-le, take-take, take-all}
 use Rattle.finite.proofs.Cases.{byBool, byLess, clash}
 use Rattle.finite.proofs.Tests.{not-same}
 use Rattle.text_lines.specs.Lines.{lineLength}
-use Rattle.family.specs.Stages.{leastWords, leastBytes}
+use Rattle.family.specs.Buffers.{leastWords, leastBytes}
 use Rattle.sheet.specs.Sheets.{lineNo, Line, refusal3, refusal4, refusal5}
 use Rattle.sheet.proofs.Refusals.{reading-3, reading-4, reading-5, header-line, within-limits}
 use Rattle.score.specs.Refusals.{refusal}

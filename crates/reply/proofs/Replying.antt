@@ -10,7 +10,7 @@ use Rattle.finite.proofs.Tests.{is-same, not-same}
 use Rattle.columns.specs.Writing.{written}
 use Rattle.columns.proofs.Writing.{length-written}
 use Rattle.family.specs.Reports.{reportIn}
-use Rattle.family.specs.Stages.{leastWords, leastBytes}
+use Rattle.family.specs.Buffers.{leastWords, leastBytes}
 use Rattle.score.specs.declared.Answer.{Answer}
 use Rattle.score.specs.declared.Answer.the-variants.{Report, Refused}
 use Rattle.score.specs.Contents.{contentsOf}

@@ -9,7 +9,7 @@ use Rattle.finite.specs.Tests.{same}
 use Rattle.columns.specs.Writing.{written}
 use Rattle.text_lines.specs.Lines.{lineLength}
 use Rattle.family.specs.Reports.{reportIn}
-use Rattle.family.specs.Stages.{leastWords, leastBytes}
+use Rattle.family.specs.Buffers.{leastWords, leastBytes}
 use Rattle.score.specs.Contents.{contentsOf}
 use Rattle.score.specs.Refusals.{refusal}
 use Rattle.reply.specs.Refused.{refusedLine}

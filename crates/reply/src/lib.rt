@@ -4,7 +4,7 @@ ghost use mathlib.Core.Path.{_≡_};
 ghost use Prim.Native.Nat.{_≤_, _<_};
 ghost use lib.ListN.{length};
 ghost use Rattle.columns.specs.Writing.{written};
-ghost use Rattle.family.specs.Stages.{leastBytes};
+ghost use Rattle.family.specs.Buffers.{leastBytes};
 ghost use Rattle.reply.specs.Refused.{refusedLine};
 ghost use Rattle.reply.specs.Replies.{longestSheet, Replied};
 

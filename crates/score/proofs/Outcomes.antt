@@ -33,7 +33,8 @@ use Rattle.sheet.proofs.Refusals.{nodes-told, genes-told, cell-small}
 use Rattle.score.specs.declared.Answer.{Answer}
 use Rattle.score.specs.declared.Answer.the-variants.{Report, Refused}
 use Rattle.family.specs.Families.{Contents}
-use Rattle.family.specs.Stages.{leastWords, leastBytes, contentsBy, Written}
+use Rattle.family.specs.Buffers.{leastWords, leastBytes}
+use Rattle.family.specs.Stages.{contentsBy, Written}
 use Rattle.score.specs.Contents.{nodeLines, geneLines, contentsOf}
 use Rattle.score.specs.Refusals.{curatorRefusals, refusal}
 use Rattle.score.specs.Outcome.{answerBy, resultBy, scratchBy, Outcome}

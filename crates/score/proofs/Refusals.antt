@@ -24,7 +24,8 @@ use Rattle.components.proofs.Readings.{components-tell}
 use Rattle.gene_tree.specs.Refusals.{geneRefusals}
 use Rattle.gene_tree.proofs.Refusals.{gene-tell}
 use Rattle.family.specs.Families.{Contents}
-use Rattle.family.specs.Stages.{leastWords, leastBytes, Passed}
+use Rattle.family.specs.Buffers.{leastWords, leastBytes}
+use Rattle.family.specs.Stages.{Passed}
 use Rattle.score.specs.Contents.{contentsOf}
 use Rattle.score.specs.Refusals.{bufferRefusals, textRefusals, curatorRefusals, refusals, refusal}
 

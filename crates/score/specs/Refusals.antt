@@ -9,7 +9,7 @@ use Rattle.network.specs.Refusals.{networkRefusals}
 use Rattle.components.specs.Refusals.{componentRefusals}
 use Rattle.gene_tree.specs.Refusals.{geneRefusals}
 use Rattle.family.specs.Families.{Contents}
-use Rattle.family.specs.Stages.{leastWords, leastBytes}
+use Rattle.family.specs.Buffers.{leastWords, leastBytes}
 use Rattle.score.specs.Contents.{contentsOf}
 
 -- "The calling program": "scratch under 16,129 words of 32 bits", "result under 5,952 bytes", of a result of so many bytes and a scratch of so many words

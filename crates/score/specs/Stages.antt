@@ -12,7 +12,8 @@ use Rattle.components.specs.Refusals.{componentRefusals}
 use Rattle.components.specs.Filling.{Dated}
 use Rattle.sheet.specs.Sheets.{headerOf}
 use Rattle.sheet.specs.declared.Headed.the-variants.{Header as accepted}
-use Rattle.family.specs.Stages.{leastWords, leastBytes, contentsBy, Sized}
+use Rattle.family.specs.Buffers.{leastWords, leastBytes}
+use Rattle.family.specs.Stages.{contentsBy, Sized}
 use Rattle.score.specs.declared.Answer.{Answer}
 use Rattle.score.specs.Contents.{contentsOf}
 use Rattle.score.specs.Refusals.{curatorRefusals, refusal}
