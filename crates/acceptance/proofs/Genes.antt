@@ -18,7 +18,7 @@ use Rattle.gene_tree.specs.Genes.{geneTreeOf}
 use Rattle.gene_tree.proofs.Refusals.{accept-12}
 use Rattle.gene_tree.proofs.Genes.{count-at, left-at, right-at, parent-at, right-after}
 use Rattle.readings.specs.Genes.{GenesOf}
-use Rattle.acceptance.specs.Admitted.{Admitted}
+use Rattle.acceptance.specs.inner.Admitted.{Admitted}
 use Rattle.acceptance.proofs.Mapped.{rooted, seat-at, seat-node, leaf-at}
 
 -- a node that no parent counts as a child has no arc out

@@ -12,7 +12,7 @@ use Rattle.topology.specs.Components.{component, reticulationCount}
 use Rattle.topology.specs.Lines.{Gene, NodeLines, GeneLines, network}
 use Rattle.topology.proofs.Above.{parent-cases, byNode}
 use Rattle.shapes.specs.Refusals.{Shape, IsLeaf, reticulation, inner, leaf}
-use Rattle.network.specs.Accepted.{AcceptedNetwork}
+use Rattle.network.specs.inner.Accepted.{AcceptedNetwork}
 use Rattle.network.proofs.Acceptance.{accepted}
 use Rattle.network.proofs.Bounds.{accepted-reticulations}
 use Rattle.components.proofs.Readings.{few-reticulations, components-accepted}
@@ -28,7 +28,7 @@ use Rattle.gene_tree.proofs.Genes as T
 use Rattle.optimum.specs.Optimum.{trials, chosen, Optimal}
 use Rattle.optimum.proofs.Optimum.{chosen-optimal}
 use Rattle.optimum.proofs.Bounds.{chosen-small, duplications-small as few-duplications, transfers-small as few-transfers, losses-small as few-losses, trials-small as few-trials}
-use Rattle.acceptance.specs.Admitted.{Admitted}
+use Rattle.acceptance.specs.inner.Admitted.{Admitted}
 
 -- no more than two arcs leave a node of any shape
 few-arcs : (N : Network) (v : ℕ) → Shape N v → children (N .size) (N .principal) v + children (N .size) (N .secondary) v ≤ 2

@@ -13,8 +13,8 @@ use Rattle.gene_tree.specs.Genes.{geneTreeOf}
 use Rattle.gene_tree.proofs.Refusals.{accept-13}
 use Rattle.gene_tree.proofs.Genes.{count-at}
 use Rattle.gene_tree.proofs.Genes as T
-use Rattle.histories.specs.Accepted.{Accepted}
-use Rattle.acceptance.specs.Admitted.{Admitted}
+use Rattle.histories.specs.inner.Accepted.{Accepted}
+use Rattle.acceptance.specs.inner.Admitted.{Admitted}
 use Rattle.acceptance.proofs.Mapped.{network-accepted, sound, rooted, seated, limits, leaf-at}
 
 -- the arcs out of a node by its shape

@@ -15,8 +15,8 @@ use Rattle.tables.proofs.Columns.{column-in, column-keeps, column-clear}
 use Rattle.topology.specs.Lines.{NodeLines, network}
 use Rattle.layout.specs.Lines.{principal, secondary, nodesIn}
 use Rattle.histories.specs.Families.{firstChild, secondChild, otherChild}
-use Rattle.histories.specs.Grades.{Order}
-use Rattle.arcs.specs.Arcs.{orderColumn, order, firstColumn, secondColumn, otherColumn, Childed, Laid}
+use Rattle.histories.specs.inner.Grades.{Order}
+use Rattle.arcs.specs.inner.Arcs.{orderColumn, order, firstColumn, secondColumn, otherColumn, Childed, Laid}
 
 -- the next child is looked for among the nodes
 next-within : (n : ℕ) (f : ℕ → ℕ) (a x : ℕ) → next n f a x ≡ next n (within n f) a x

@@ -21,9 +21,9 @@ use Rattle.topology.specs.Lines.{network}
 use Rattle.topology.proofs.Above.{fall-principal, fall-secondary}
 use Rattle.layout.specs.Lines.{principal, secondary, nodesIn}
 use Rattle.layout.proofs.Numbered.{principal-in, secondary-in}
-use Rattle.histories.specs.Grades.{Order}
-use Rattle.arcs.specs.Arcs.{order, orderColumn, networkIn}
-use Rattle.arcs.specs.Walks.{place, Walked, Due, Visited}
+use Rattle.histories.specs.inner.Grades.{Order}
+use Rattle.arcs.specs.inner.Arcs.{order, orderColumn, networkIn}
+use Rattle.arcs.specs.inner.Walks.{place, Walked, Due, Visited}
 
 -- whether v stands
 abbrev stands : List ℕ → ℕ → Bool

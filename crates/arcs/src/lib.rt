@@ -10,9 +10,9 @@ ghost use lib.ListN.{length};
 ghost use Rattle.tables.specs.Columns.{blank, Clear, Kept};
 ghost use Rattle.topology.specs.Networks.{Sound};
 ghost use Rattle.layout.specs.Lines.{nodesIn};
-ghost use Rattle.histories.specs.Grades.{Order};
-ghost use Rattle.arcs.specs.Arcs.{orderColumn, order, first, second, other, networkIn, Childed, Laid};
-ghost use Rattle.arcs.specs.Walks.{Walked, Due, Visited};
+ghost use Rattle.histories.specs.inner.Grades.{Order};
+ghost use Rattle.arcs.specs.inner.Arcs.{orderColumn, order, first, second, other, networkIn, Childed, Laid};
+ghost use Rattle.arcs.specs.inner.Walks.{Walked, Due, Visited};
 
 pub type Arcs = Table;
 

@@ -6,10 +6,10 @@ use mathlib.Core.Logic.{_≢_}
 use mathlib.Core.List.{List}
 use Prim.Native.Nat.{ℕ, _+_}
 use Rattle.histories.specs.Histories.{Cost, _lesser_, then, both, resting, parting, moving, leaf}
-use Rattle.histories.specs.Rows.{Cell}
+use Rattle.histories.specs.inner.Rows.{Cell}
 use Rattle.histories.specs.Families.{outBy}
 use Rattle.histories.proofs.Outs.{out-leaf, out-two, out-mixed, out-one}
-use Rattle.cell_costs.specs.Costs.{costIn, Readable, tipCost, innerCost, transferring}
+use Rattle.cell_costs.specs.inner.Costs.{costIn, Readable, tipCost, innerCost, transferring}
 use Rattle.cell_costs.proofs.Sums.{or-none}
 
 module _ (x y z s : ℕ) where

@@ -8,8 +8,8 @@ use native.Mathlib.Omega.{arith}
 use lib.ListN.{getD}
 use Rattle.histories.specs.Histories.{Cost, _lesser_, leastOver}
 use Rattle.histories.specs.Words.{noHistory, costOf, cell}
-use Rattle.histories.specs.Rows.{row}
-use Rattle.cell_costs.specs.Costs.{costIn}
+use Rattle.histories.specs.inner.Rows.{row}
+use Rattle.cell_costs.specs.inner.Costs.{costIn}
 use Rattle.cell_costs.proofs.Sums.{sum-none, sum-word}
 
 pub over-start : (f : ℕ → Cost) (w : ℕ) → w ≡ noHistory → costIn w ≡ leastOver 0 f

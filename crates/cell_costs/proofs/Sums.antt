@@ -13,9 +13,9 @@ use Rattle.finite.proofs.Tests.{is-under, not-under}
 use Rattle.finite.proofs.Cases.{byEq, byLess}
 use Rattle.histories.specs.Histories.{Cost, _lesser_, _⊕_, then, both}
 use Rattle.histories.specs.Words.{noHistory, costOf}
-use Rattle.histories.specs.Rows.{costAt, Small, Cell}
+use Rattle.histories.specs.inner.Rows.{costAt, Small, Cell}
 use Rattle.histories.proofs.Words.{cost-none, cost-some}
-use Rattle.cell_costs.specs.Costs.{costIn}
+use Rattle.cell_costs.specs.inner.Costs.{costIn}
 
 small-word : (w : ℕ) → Small (costOf w) → w ≢ noHistory → w ≤ 1000000000
 unfolding Small

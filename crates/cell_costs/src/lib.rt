@@ -10,8 +10,8 @@ ghost use lib.ListN.{length};
 ghost use Rattle.layout.specs.Headers.{WithinLimits};
 ghost use Rattle.histories.specs.Histories.{_lesser_, then, both, resting, leaf, leastOver};
 ghost use Rattle.histories.specs.Words.{costOf};
-ghost use Rattle.histories.specs.Rows.{row, costAt, Cell};
-ghost use Rattle.cell_costs.specs.Costs.{costIn, Ends, Children, transferring, tipIn, innerIn};
+ghost use Rattle.histories.specs.inner.Rows.{row, costAt, Cell};
+ghost use Rattle.cell_costs.specs.inner.Costs.{costIn, Ends, Children, transferring, tipIn, innerIn};
 
 // The word that stands for no history. Words are added as `usize`: a sum from this word on stands for none, so no word is told apart before it is added.
 const NONE: u32 = 4294967295;

@@ -13,7 +13,7 @@ use native.Mathlib.Omega.{arith}
 use borrow.Author.Tests.{ltb-false, eqb-true, eqb-false, lt-ltb, le-ltb, ne-eqb}
 use Rattle.finite.proofs.Cases.{byBool, byEq, byLess, clash}
 use Rattle.columns.specs.Fields.{columns, placeValue, columnOf, digitOf, worthOf, six, fieldAt}
-use Rattle.columns.specs.Scans.{frontCount, Blank, twoSpaces, digit, opening, fitting}
+use Rattle.columns.specs.inner.Scans.{frontCount, Blank, twoSpaces, digit, opening, fitting}
 use Rattle.columns.specs.declared.Field.the-variants.{Number, Malformed}
 use Rattle.columns.proofs.Columns.{columns-are, below-six, space, shown, six-at}
 use Rattle.columns.proofs.Fields.{digit-small, mod-ten, column-digit, spelled-columns, found, agrees, only-field, worth-bound, worth-turn}

@@ -11,7 +11,7 @@ use native.Mathlib.Omega.{arith}
 use borrow.Author.Tests.{lt-ltb}
 use borrow.Rule.Slice.PartMut.{putMid}
 use Rattle.columns.specs.Fields.{columns, columnOf}
-use Rattle.columns.specs.Scans.{frontCount}
+use Rattle.columns.specs.inner.Scans.{frontCount}
 use Rattle.columns.specs.Writing.{written, put}
 use Rattle.columns.proofs.Columns.{columns-are, column-at, length-columns}
 

@@ -1,4 +1,3 @@
 pub mod Fields
-pub mod Scans
 pub mod Writing
-pub mod Examples
+pub mod inner

@@ -5,7 +5,7 @@ ghost use mathlib.Core.Logic.{_↔_};
 ghost use Prim.Native.Nat.{_+_, _≤_, _<_};
 ghost use lib.ListN.{length, drop, replicate};
 ghost use Rattle.columns.specs.Fields.{placeValue, columnOf, columns, fieldAt, FieldIs};
-ghost use Rattle.columns.specs.Scans.{frontCount, Blank, twoSpaces, digit, opening, fitting};
+ghost use Rattle.columns.specs.inner.Scans.{frontCount, Blank, twoSpaces, digit, opening, fitting};
 ghost use Rattle.columns.specs.Writing.{written, put};
 
 // What each column is worth, the last column first.

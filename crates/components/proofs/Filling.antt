@@ -24,12 +24,12 @@ use Rattle.topology.proofs.Lines.{rank-none, rank-is as lines-rank}
 use Rattle.topology.proofs.Above.{reticulation-node}
 use Rattle.topology.proofs.Components.{component-node, member-is, is-member}
 use Rattle.layout.specs.Lines.{secondary, stamp, nodesIn}
-use Rattle.layout.specs.Parts.{rankColumn, rank, topColumn, top, reticulationCountColumn, indexColumn, index, Parted}
-use Rattle.layout.specs.Parts as Parts
+use Rattle.layout.specs.inner.Parts.{rankColumn, rank, topColumn, top, reticulationCountColumn, indexColumn, index, Parted}
+use Rattle.layout.specs.inner.Parts as Parts
 use Rattle.layout.proofs.Numbered.{secondary-in, stamp-in}
 use Rattle.components.specs.Refusals.{crowdedAt, refusal11}
-use Rattle.components.specs.Ways.{Ranked}
-use Rattle.components.specs.Filling.{rankAt, PartedTo}
+use Rattle.components.specs.inner.Ways.{Ranked}
+use Rattle.components.specs.inner.Filling.{rankAt, PartedTo}
 
 -- those of 1..n that pass and are not above v
 count-whole : (v : ℕ) (f : ℕ → Bool) → count v (λ q. f q && under q (v + 1)) ≡ count v f

@@ -25,9 +25,9 @@ use Rattle.topology.proofs.Climbing.{low-some}
 use Rattle.topology.proofs.Above.{node-principal, fall-principal, falls-principal, above-self, above-low, tree-not, reticulation-is, is-reticulation}
 use Rattle.topology.proofs.Components.{component-top, component-up, top-root, top-reticulation}
 use Rattle.layout.specs.Lines.{principal, secondary, nodesIn}
-use Rattle.layout.specs.Parts.{rank}
+use Rattle.layout.specs.inner.Parts.{rank}
 use Rattle.layout.proofs.Numbered.{principal-in, secondary-in}
-use Rattle.components.specs.Ways.{Ranked, between, bridged, marked, MarkedWay, MarkedWays, NonTops}
+use Rattle.components.specs.inner.Ways.{Ranked, between, bridged, marked, MarkedWay, MarkedWays, NonTops}
 
 -- marking a node
 pub marked-set : (m : List ℕ) (a : ℕ) → a < length m → (w : ℕ) → marked (set m a 1) w ≡ (same w a || marked m w)

@@ -1,3 +1,2 @@
 pub mod Refusals
-pub mod Ways
-pub mod Filling
+pub mod inner

@@ -14,8 +14,8 @@ ghost use Rattle.topology.specs.Networks.{Sound};
 ghost use Rattle.topology.specs.Components.{component};
 ghost use Rattle.topology.specs.Lines.{network};
 ghost use Rattle.layout.specs.Lines.{nodesIn};
-ghost use Rattle.layout.specs.Parts.{topColumn};
-ghost use Rattle.components.specs.Ways.{Ranked, MarkedWay, MarkedWays, NonTops};
+ghost use Rattle.layout.specs.inner.Parts.{topColumn};
+ghost use Rattle.components.specs.inner.Ways.{Ranked, MarkedWay, MarkedWays, NonTops};
 
 // Marks the nodes on the way between x and y in the principal tree, the one where they meet left out: the climber of larger rank goes on.
 fn mark_way(n: usize, lines: &Lines, parts: &Parts, marks: &mut [u32; 128], x: usize, y: usize)

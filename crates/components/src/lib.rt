@@ -13,9 +13,9 @@ ghost use Rattle.tables.specs.Columns.{column, blank};
 ghost use Rattle.topology.specs.Networks.{Sound};
 ghost use Rattle.topology.specs.Lines.{network};
 ghost use Rattle.layout.specs.Lines.{stamp, nodesIn};
-ghost use Rattle.layout.specs.Parts.{rankColumn, Parted};
+ghost use Rattle.layout.specs.inner.Parts.{rankColumn, Parted};
 ghost use Rattle.components.specs.Refusals.{refusal11};
-ghost use Rattle.components.specs.Filling.{Dated, rankAt, PartedTo};
+ghost use Rattle.components.specs.inner.Filling.{Dated, rankAt, PartedTo};
 
 // The rank of node v.
 fn rank_of(lines: &Lines, v: usize) -> u32

@@ -20,7 +20,7 @@ use Rattle.reconciliation.specs.Costs.{Costs}
 use Rattle.reconciliation.proofs.Genes.{inner, child, few-inner, few-children}
 use Rattle.displayed.specs.Displayed.{Displayed, NodeOf, Tree}
 use Rattle.displayed.specs.Mapping.{SeatedIn, place, isDuplication, event, onTheWay, transfers, lost, losses, duplicationCount, transferCount, lossCount, lcaCost}
-use Rattle.displayed.specs.Charges.{onWay}
+use Rattle.displayed.specs.inner.Charges.{onWay}
 use Rattle.displayed.specs.Displays.{switched, display, displayed, twoArcs, base}
 use Rattle.displayed.proofs.Ways.{way-sum}
 use Rattle.displayed.proofs.Events.{event-test, duplication-is}

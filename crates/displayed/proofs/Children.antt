@@ -17,7 +17,7 @@ use Rattle.reconciliation.specs.GeneTrees.{GeneTree, Rooted}
 use Rattle.reconciliation.proofs.Genes.{child-gene, parent-gene}
 use Rattle.displayed.specs.Displayed.{Displayed, NodeOf, Tree, reaches, way, departure}
 use Rattle.displayed.specs.Mapping.{SeatedIn, place, sits, isDuplication, onTheWay, transfers, lost, losses}
-use Rattle.displayed.specs.Arcs.{move, mark}
+use Rattle.displayed.specs.inner.Arcs.{move, mark}
 use Rattle.displayed.proofs.Trees.{node-up, not-below}
 use Rattle.displayed.proofs.Places.{place-node, parent-above}
 use Rattle.displayed.proofs.Ways.{along-sum}

@@ -22,7 +22,7 @@ use Rattle.reconciliation.specs.GeneTrees.{GeneTree, Seated}
 use Rattle.reconciliation.proofs.Agreement.{parent-same, secondary-same}
 use Rattle.displayed.specs.Displayed.{Tree}
 use Rattle.displayed.specs.Mapping.{SeatedIn}
-use Rattle.displayed.specs.Charges.{Alike}
+use Rattle.displayed.specs.inner.Charges.{Alike}
 use Rattle.displayed.specs.Displays.{switched, Marks, display, displayed, Near, twoArcs, base}
 
 -- every switching displays a tree

@@ -16,7 +16,7 @@ use Rattle.reconciliation.specs.GeneTrees.{GeneTree}
 use Rattle.reconciliation.specs.Costs.{Costs}
 use Rattle.displayed.specs.Displayed.{Displayed, Tree, reaches}
 use Rattle.displayed.specs.Mapping.{placeIn, place, sits, duplicatesAt, lost}
-use Rattle.displayed.specs.Charges.{onWay, toll, charge, Alike}
+use Rattle.displayed.specs.inner.Charges.{onWay, toll, charge, Alike}
 use Rattle.displayed.proofs.Trees.{not-below}
 
 -- sums over as many numbers

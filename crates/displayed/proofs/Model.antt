@@ -11,7 +11,7 @@ use Rattle.displayed.specs.Displayed.{Displayed, Tree}
 use Rattle.displayed.specs.Mapping.{SeatedIn}
 use Rattle.displayed.specs.Mapping as T
 use Rattle.displayed.specs.Displays.{switched, display, base}
-use Rattle.displayed.specs.Tabled.{treeIn, Holds}
+use Rattle.displayed.specs.inner.Tabled.{treeIn, Holds}
 use Rattle.displayed.specs.Model.{treeOf, place, event, transfers, losses, duplicationCount, transferCount, lossCount, lcaCost}
 use Rattle.displayed.proofs.Displays.{display-tree, seated, switched-agree}
 use Rattle.displayed.proofs.Places as P

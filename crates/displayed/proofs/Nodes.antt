@@ -16,7 +16,7 @@ use Rattle.reconciliation.specs.Costs.{Costs}
 use Rattle.reconciliation.proofs.Genes.{parent-gene}
 use Rattle.displayed.specs.Displayed.{Displayed, NodeOf, Tree, reaches}
 use Rattle.displayed.specs.Mapping.{SeatedIn, place, sits, duplicatesAt, isDuplication, event, transfers, lost, losses, duplicationCount, transferCount, lossCount, lcaCost}
-use Rattle.displayed.specs.Charges.{onWay, toll, charge}
+use Rattle.displayed.specs.inner.Charges.{onWay, toll, charge}
 use Rattle.displayed.proofs.Trees.{node-up, root-reaches}
 use Rattle.displayed.proofs.Places.{place-node}
 use Rattle.displayed.proofs.Ways.{way-sum}

@@ -12,7 +12,7 @@ use Rattle.finite.proofs.Cases.{byBool, byEq, byLess}
 use Rattle.finite.proofs.Tests.{is-same, not-same}
 use Rattle.finite.proofs.Tables.{within-in, within-out, within-zero}
 use Rattle.displayed.specs.Displayed.{Displayed, NodeOf, Tree}
-use Rattle.displayed.specs.Tabled.{rankIn, treeIn, Holds}
+use Rattle.displayed.specs.inner.Tabled.{rankIn, treeIn, Holds}
 use Rattle.displayed.proofs.Trees.{node-up}
 use Rattle.displayed.proofs.Same.{SameTree}
 

@@ -14,7 +14,7 @@ use Rattle.reconciliation.specs.GeneTrees.{GeneTree, Rooted}
 use Rattle.reconciliation.proofs.Genes.{child-gene, parent-gene}
 use Rattle.displayed.specs.Displayed.{Displayed, NodeOf, Tree, reaches, way}
 use Rattle.displayed.specs.Mapping.{SeatedIn, place, onTheWay}
-use Rattle.displayed.specs.Charges.{onWay}
+use Rattle.displayed.specs.inner.Charges.{onWay}
 use Rattle.displayed.proofs.Trees.{node-up, not-below}
 use Rattle.displayed.proofs.Places.{place-node, parent-above}
 

@@ -31,7 +31,7 @@ use Rattle.readings.proofs.Mapped.{mapped, added}
 use Rattle.readings.proofs.Pieces.{pieces, trials-summed, with-any}
 use Rattle.report.specs.Reports.{SmallTotals, reportLength}
 use Rattle.report.proofs.Writing.{length-report}
-use Rattle.acceptance.specs.Admitted.{Admitted}
+use Rattle.acceptance.specs.inner.Admitted.{Admitted}
 use Rattle.acceptance.proofs.Mapped.{sound, rooted, seated, optimal, component-few, cost-small, duplications-small, transfers-small, losses-small, trials-small, parent-small, place-small, event-few, gene-transfers-small, gene-losses-small}
 use Rattle.acceptance.proofs.Genes.{genes-of}
 use Rattle.acceptance.proofs.Whole.{whole-accepted}

@@ -21,11 +21,11 @@ use Rattle.topology.specs.Lines.{NodeLines, GeneLines, network}
 use Rattle.topology.proofs.Above.{reticulation-node}
 use Rattle.topology.proofs.Components.{component-node}
 use Rattle.layout.specs.Lines.{nodesIn, genesIn}
-use Rattle.layout.specs.Parts.{top}
-use Rattle.layout.specs.Parts as Parts
-use Rattle.layout.specs.Tree.{Held}
-use Rattle.layout.specs.Genes.{geneTree}
-use Rattle.layout.specs.Choices.{best as chosenSetting}
+use Rattle.layout.specs.inner.Parts.{top}
+use Rattle.layout.specs.inner.Parts as Parts
+use Rattle.layout.specs.inner.Tree.{Held}
+use Rattle.layout.specs.inner.Genes.{geneTree}
+use Rattle.layout.specs.inner.Choices.{best as chosenSetting}
 use Rattle.layout.specs.Headers.{costs}
 use Rattle.layout.specs.declared.Header.{Header}
 use Rattle.network.proofs.Acceptance.{no-others}
@@ -35,25 +35,25 @@ use Rattle.displayed.specs.Model.{place, event, transfers, losses}
 use Rattle.gene_tree.specs.Genes.{geneTreeOf}
 use Rattle.gene_tree.proofs.Genes.{count-at}
 use Rattle.optimum.specs.Optimum.{assembled, chosen, trials, best}
-use Rattle.search.specs.Prepared.{Prepared, scoreUnder, Reconciled}
-use Rattle.search.specs.Searched.{Searched}
+use Rattle.search.specs.inner.Prepared.{Prepared, scoreUnder, Reconciled}
+use Rattle.search.specs.inner.Searched.{Searched}
 use Rattle.search.specs.declared.Found.{Found}
 use Rattle.histories.specs.Words.{word, words}
 use Rattle.histories.specs.Histories.{overall}
 use Rattle.histories.specs.Families.{familyOf}
-use Rattle.histories.specs.Promise.{WholeNetwork}
-use Rattle.whole_network.specs.Stages.{AcceptedIn}
-use Rattle.whole_network.specs.Stages as W
-use Rattle.acceptance.specs.Admitted.{Admitted}
+use Rattle.histories.specs.inner.Promise.{WholeNetwork}
+use Rattle.whole_network.specs.inner.Stages.{AcceptedIn}
+use Rattle.whole_network.specs.inner.Stages as W
+use Rattle.acceptance.specs.inner.Admitted.{Admitted}
 use Rattle.acceptance.proofs.Mapped.{sound, rooted, seated, component-few, cost-small, duplications-small, transfers-small, losses-small, trials-small, reticulations-small, parent-small, place-small, event-few, gene-transfers-small, gene-losses-small}
 use Rattle.acceptance.proofs.Whole.{whole-accepted}
 use Rattle.report.specs.declared.Totals.{Totals}
 use Rattle.report.specs.Reports.{SmallTotals, reportLength}
-use Rattle.report.specs.Tables.{reticulationIn, tabledReport, SmallNodes, SmallGenes}
+use Rattle.report.specs.inner.Tables.{reticulationIn, tabledReport, SmallNodes, SmallGenes}
 use Rattle.report.proofs.Writing.{length-report, report-same}
 use Rattle.family.specs.Families.{Contents, networkIn, geneTreeIn, familyIn, reported}
 use Rattle.family.specs.Reports.{totalsIn, reportIn}
-use Rattle.family.specs.Stages.{contentsBy, Sized, Passed, Worked, totalsBy, Written}
+use Rattle.family.specs.inner.Stages.{contentsBy, Sized, Passed, Worked, totalsBy, Written}
 
 -- what is no reticulation is set by no setting
 plain : (N : Network) (r : ℕ) → N .secondary r ≡ 0 → (c y : ℕ) → settingOf N c y r ≡ false

@@ -1,4 +1,4 @@
 pub mod Buffers
 pub mod Families
 pub mod Reports
-pub mod Stages
+pub mod inner

@@ -13,10 +13,10 @@ ghost use lib.ListN.{length};
 ghost use Rattle.finite.specs.Tests.{same, tally};
 ghost use Rattle.finite.specs.Range.{count};
 ghost use Rattle.layout.specs.Lines.{nodesIn};
-ghost use Rattle.layout.specs.Parts.{reticulationCount, Parted};
+ghost use Rattle.layout.specs.inner.Parts.{reticulationCount, Parted};
 ghost use Rattle.topology.specs.Networks.{isReticulation};
 ghost use Rattle.topology.specs.Lines.{network};
-ghost use Rattle.family.specs.Stages.{contentsBy, Sized, Passed, Worked, totalsBy, Written};
+ghost use Rattle.family.specs.inner.Stages.{contentsBy, Sized, Passed, Worked, totalsBy, Written};
 
 // 1 for a number that is not 0.
 fn is_some(x: usize) -> u32

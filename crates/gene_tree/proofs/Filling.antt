@@ -18,11 +18,11 @@ use Rattle.tables.proofs.Columns.{column-long, column-in, column-keeps, column-
 use Rattle.tables.proofs.Nexts.{next-same}
 use Rattle.topology.specs.Lines.{NodeLines, GeneLines}
 use Rattle.layout.specs.Lines.{nodeSpecies, geneParent, nodesIn, genesIn}
-use Rattle.layout.specs.Genes.{leftColumn, rightColumn, leafColumn, parentColumn, geneTree}
+use Rattle.layout.specs.inner.Genes.{leftColumn, rightColumn, leafColumn, parentColumn, geneTree}
 use Rattle.layout.proofs.Numbered.{species-in, gene-parent-in}
 use Rattle.gene_tree.specs.Refusals.{childCount, bearer}
 use Rattle.gene_tree.specs.Genes.{leftOf, rightOf, leafOf, geneTreeOf}
-use Rattle.gene_tree.specs.Work.{childCountColumn, bearerColumn, ChildCounts, Bearers}
+use Rattle.gene_tree.specs.inner.Work.{childCountColumn, bearerColumn, ChildCounts, Bearers}
 use Rattle.gene_tree.proofs.Refusals.{bearer-zero}
 use Rattle.gene_tree.proofs.Reading.{count-is}
 

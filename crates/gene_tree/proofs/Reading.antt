@@ -20,7 +20,7 @@ use Rattle.layout.proofs.Numbered.{species-in, gene-parent-in, gene-species-in}
 use Rattle.topology.specs.Lines.{Gene}
 use Rattle.gene_tree.specs.Refusals.{badParent, badCount, badGeneAt, refusal12, bearer, badSpecies, badSpeciesAt, refusal13}
 use Rattle.gene_tree.specs.Genes.{leafOf}
-use Rattle.gene_tree.specs.Work.{childCountColumn, bearerColumn, ChildCounts, Bearers}
+use Rattle.gene_tree.specs.inner.Work.{childCountColumn, bearerColumn, ChildCounts, Bearers}
 use Rattle.gene_tree.proofs.Refusals.{bearer-in}
 
 -- the search for the lowest node of species s: y is the species of node v + 1

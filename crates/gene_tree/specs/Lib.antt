@@ -1,3 +1,3 @@
 pub mod Refusals
 pub mod Genes
-pub mod Work
+pub mod inner

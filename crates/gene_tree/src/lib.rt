@@ -16,10 +16,10 @@ ghost use Rattle.finite.specs.Refusals.{verdict};
 ghost use Rattle.tables.specs.Columns.{column, blank, Clear};
 ghost use Rattle.tables.specs.Children.{next};
 ghost use Rattle.layout.specs.Lines.{nodesIn, genesIn};
-ghost use Rattle.layout.specs.Genes.{geneTree, leafColumn, parentColumn};
+ghost use Rattle.layout.specs.inner.Genes.{geneTree, leafColumn, parentColumn};
 ghost use Rattle.gene_tree.specs.Refusals.{badParent, badCount, refusal12, bearer, badSpecies, refusal13, speciesRefusals, geneRefusals};
 ghost use Rattle.gene_tree.specs.Genes.{leafOf, geneTreeOf};
-ghost use Rattle.gene_tree.specs.Work.{childCountColumn, ChildCounts, Bearers};
+ghost use Rattle.gene_tree.specs.inner.Work.{childCountColumn, ChildCounts, Bearers};
 
 // The columns of the table that is worked out first: of each gene how many children it has, of each number up to n the node that bears it as a species.
 const CHILD_COUNT: usize = 0;

@@ -17,9 +17,9 @@ use Rattle.reconciliation.specs.GeneTrees.{GeneTree}
 use Rattle.reconciliation.specs.Costs.{Costs}
 use Rattle.reconciliation.specs.Limits.{Limits}
 use Rattle.histories.specs.Histories.{leaf, tip, pair, Family}
-use Rattle.histories.specs.Grades.{Leads, Graded, Order, Schedule, Prepared}
+use Rattle.histories.specs.inner.Grades.{Leads, Graded, Order, Schedule, Prepared}
 use Rattle.histories.specs.Families.{next, outBy, geneBy, firstChild, secondChild, otherChild, outOf, geneOf, familyOf}
-use Rattle.histories.specs.Accepted.{Accepted}
+use Rattle.histories.specs.inner.Accepted.{Accepted}
 use Rattle.histories.proofs.Outs.{byOut}
 use Rattle.histories.proofs.Sizes.{size, size-low, size-le, size-splits}
 

@@ -10,7 +10,7 @@ use Rattle.reconciliation.specs.Costs.{Costs}
 use Rattle.reconciliation.specs.Limits.{Limits}
 use Rattle.histories.specs.Histories.{pair, Family, least}
 use Rattle.histories.specs.Histories.{History, rest, duplicate, speciate, speciateLose, transferStay, transferPart, transferLose, pass, cost}
-use Rattle.histories.specs.Grades.{Graded}
+use Rattle.histories.specs.inner.Grades.{Graded}
 use Rattle.histories.proofs.Costs.{reach}
 use Rattle.histories.proofs.Least.{one-end, two-ends, mixed-ends, least-sound}
 

@@ -13,7 +13,7 @@ use lib.Seq.{getD-set-same, getD-set-other, getD-append-add, getD-drop, ext-getD
 use Rattle.finite.proofs.Cases.{byEq, byLess, byOrder}
 use Rattle.histories.specs.Histories.{Family, least}
 use Rattle.histories.specs.Words.{word, costOf, cell, listed, wordAt, words}
-use Rattle.histories.specs.Rows.{row, costAt, Rows, Kept}
+use Rattle.histories.specs.inner.Rows.{row, costAt, Rows, Kept}
 use Rattle.histories.proofs.Words.{word-cost}
 
 before : (g n : ℕ) → (suc g - 1) * n ≡ g * n

@@ -10,7 +10,7 @@ use Rattle.reconciliation.specs.GeneTrees.{GeneTree}
 use Rattle.reconciliation.specs.Costs.{Costs}
 use Rattle.histories.specs.Histories.{tip, pair}
 use Rattle.histories.specs.Families.{familyOf, Describes}
-use Rattle.histories.specs.Accepted.{Accepted}
+use Rattle.histories.specs.inner.Accepted.{Accepted}
 use Rattle.histories.proofs.Accepted.{inner-is, gene-tip, gene-pair}
 use Rattle.histories.proofs.Ends.{principal-ends, secondary-ends, principal-inside, secondary-inside, leaf-arcs, arcs-leaf}
 

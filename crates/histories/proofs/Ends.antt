@@ -17,7 +17,7 @@ use Rattle.reconciliation.specs.GeneTrees.{GeneTree}
 use Rattle.reconciliation.specs.Costs.{Costs}
 use Rattle.histories.specs.Histories.{Family, leaf, one, two, mixed}
 use Rattle.histories.specs.Families.{firstChild, secondChild, otherChild, outBy, PrincipalEnd, SecondaryEnd}
-use Rattle.histories.specs.Accepted.{Accepted}
+use Rattle.histories.specs.inner.Accepted.{Accepted}
 use Rattle.histories.proofs.Outs.{out-leaf, out-two, out-mixed, out-one, byOut}
 use Rattle.histories.proofs.Accepted.{Whole, out-at, node-of}
 use Rattle.histories.proofs.Small.{has-first, only-first, first-or-second}

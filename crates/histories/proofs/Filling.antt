@@ -11,9 +11,9 @@ use lib.ListN.{length, set, length-set, drop, length-drop}
 use lib.Seq.{getD-set-other}
 use Rattle.finite.proofs.Cases.{byEq, byLess}
 use Rattle.histories.specs.Histories.{Cost, parting, moving, ending, stepping, clauses, least, Out, leaf, one, two, mixed, Gene, tip, pair, Family}
-use Rattle.histories.specs.Grades.{Leads, Prepared}
+use Rattle.histories.specs.inner.Grades.{Leads, Prepared}
 use Rattle.histories.specs.Words.{costOf, cell}
-use Rattle.histories.specs.Rows.{row, Small, Cell, Rows, Partly, Kept}
+use Rattle.histories.specs.inner.Rows.{row, Small, Cell, Rows, Partly, Kept}
 use Rattle.histories.proofs.Least.{equation}
 use Rattle.histories.proofs.Bound.{least-bound}
 use Rattle.histories.proofs.Cells.{cell-in, row-here, row-there, row-costs}

@@ -13,7 +13,7 @@ use Rattle.finite.proofs.Cases.{byEq}
 use Rattle.reconciliation.specs.Costs.{Costs}
 use Rattle.histories.specs.Histories.{Out, leaf, one, two, mixed, Gene, tip, pair, Family, Cost, Least, attained, nothing, LeastOverall, both, resting, parting, moving, ending, stepping, clauses, best, least, leastOver, overall}
 use Rattle.histories.specs.Histories.{History, rest, duplicate, speciate, speciateLose, transferStay, transferPart, transferLose, pass, cost}
-use Rattle.histories.specs.Grades.{Leads, Graded}
+use Rattle.histories.specs.inner.Grades.{Leads, Graded}
 use Rattle.histories.proofs.Costs.{AtMost, within, Attains, nowhere, somewhere, left, right, at-then, at-both, meet, from-both, from-then, convey, reach, found, low, unique}
 
 module _ (F : Family) where

@@ -12,10 +12,10 @@ use Rattle.reconciliation.specs.GeneTrees.{GeneTree}
 use Rattle.reconciliation.specs.Costs.{Costs}
 use Rattle.histories.specs.Histories.{Family, Cost, Least, LeastOverall, least, leastOver, overall}
 use Rattle.histories.specs.Words.{noHistory, word, costOf, cell, words}
-use Rattle.histories.specs.Rows.{row, Rows, Kept}
+use Rattle.histories.specs.inner.Rows.{row, Rows, Kept}
 use Rattle.histories.specs.Families.{familyOf}
-use Rattle.histories.specs.Accepted.{Accepted}
-use Rattle.histories.specs.Promise.{WholeNetwork}
+use Rattle.histories.specs.inner.Accepted.{Accepted}
+use Rattle.histories.specs.inner.Promise.{WholeNetwork}
 use Rattle.histories.proofs.Words.{cost-none, cost-some, word-cost}
 use Rattle.histories.proofs.Cells.{cell-in, length-words, word-at, is-words}
 use Rattle.histories.proofs.Least.{is-least, is-overall}

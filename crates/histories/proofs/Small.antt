@@ -20,7 +20,7 @@ use Rattle.reconciliation.specs.Costs.{Costs}
 use Rattle.histories.specs.Histories.{leaf, Family, overall}
 use Rattle.histories.specs.Histories.{History, rest, duplicate, speciateLose, pass, cost}
 use Rattle.histories.specs.Families.{next, firstChild, secondChild, otherChild, outBy, familyOf}
-use Rattle.histories.specs.Accepted.{Accepted}
+use Rattle.histories.specs.inner.Accepted.{Accepted}
 use Rattle.histories.proofs.Least.{overall-at-most}
 use Rattle.histories.proofs.Outs.{out-leaf, out-two, out-mixed, out-one}
 use Rattle.histories.proofs.Sizes.{size, size-low, size-le, size-splits}

@@ -1,7 +1,4 @@
 pub mod Histories
-pub mod Grades
 pub mod Words
-pub mod Rows
 pub mod Families
-pub mod Accepted
-pub mod Promise
+pub mod inner

@@ -18,7 +18,7 @@ use Rattle.topology.specs.Components.{component, reticulationCount}
 use Rattle.topology.specs.Lines.{NodeLines, GeneLines, network}
 use Rattle.layout.specs.Headers.{costs}
 use Rattle.sheet.specs.Sheets.{headerIn, nodes, genes, cell}
-use Rattle.network.specs.Accepted.{NoOthers}
+use Rattle.network.specs.inner.Accepted.{NoOthers}
 use Rattle.reconciliation.specs.GeneTrees.{GeneTree}
 use Rattle.reconciliation.proofs.Agreement.{parent-same, secondary-same}
 use Rattle.displayed.specs.Model.{place, event, transfers, losses, duplicationCount, transferCount, lossCount, lcaCost}

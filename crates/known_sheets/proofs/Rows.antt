@@ -13,7 +13,7 @@ use Rattle.columns.proofs.Bytes.{same-eq}
 use Rattle.histories.specs.Words.{words}
 use Rattle.score.specs.declared.Answer.{Answer}
 use Rattle.score.specs.declared.Answer.the-variants.{Report, Refused}
-use Rattle.network.specs.Accepted.{NoOthers}
+use Rattle.network.specs.inner.Accepted.{NoOthers}
 use Rattle.family.specs.Families.{Contents, familyIn}
 use Rattle.family.specs.Reports.{reportIn}
 use Rattle.score.specs.Contents.{contentsOf}

@@ -1,7 +1,3 @@
 pub mod Lines
-pub mod Parts
-pub mod Choices
-pub mod Tree
-pub mod Genes
-pub mod Results
 pub mod Headers
+pub mod inner

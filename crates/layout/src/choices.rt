@@ -1,7 +1,7 @@
 // The settings of the components, by top: the one that is tried, and the best so far.
 ghost use mathlib.Core.Path.{_≡_};
 ghost use Prim.Native.Nat.{_≤_};
-ghost use Rattle.layout.specs.Choices.{best};
+ghost use Rattle.layout.specs.inner.Choices.{best};
 
 pub type Choices = tables::Table;
 

@@ -1,7 +1,7 @@
 // A gene tree, by gene: its children, 0 for a leaf gene, the node of a leaf gene, and its parent.
 ghost use mathlib.Core.Path.{_≡_};
 ghost use Prim.Native.Nat.{_≤_};
-ghost use Rattle.layout.specs.Genes.{left, right, leaf, parent};
+ghost use Rattle.layout.specs.inner.Genes.{left, right, leaf, parent};
 
 pub type Genes = tables::Table;
 

@@ -2,7 +2,7 @@
 // reticulation how many of its component have a lower number.
 ghost use mathlib.Core.Path.{_≡_};
 ghost use Prim.Native.Nat.{_≤_};
-ghost use Rattle.layout.specs.Parts.{rank, top, reticulationCount, index};
+ghost use Rattle.layout.specs.inner.Parts.{rank, top, reticulationCount, index};
 
 pub type Parts = tables::Table;
 

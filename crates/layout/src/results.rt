@@ -1,7 +1,7 @@
 // What the report says of each gene: its place, its event, the transfers and the losses on its way.
 ghost use mathlib.Core.Path.{_≡_};
 ghost use Prim.Native.Nat.{_≤_};
-ghost use Rattle.layout.specs.Results.{place, event, transfers, losses};
+ghost use Rattle.layout.specs.inner.Results.{place, event, transfers, losses};
 
 pub type Results = tables::Table;
 

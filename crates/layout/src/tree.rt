@@ -2,7 +2,7 @@
 // leave it.
 ghost use mathlib.Core.Path.{_≡_};
 ghost use Prim.Native.Nat.{_≤_};
-ghost use Rattle.layout.specs.Tree.{up, lateral, rank, arcs};
+ghost use Rattle.layout.specs.inner.Tree.{up, lateral, rank, arcs};
 
 pub type Tree = tables::Table;
 

@@ -16,24 +16,24 @@ use Rattle.finite.proofs.Tests.{is-same, not-same}
 use Rattle.finite.proofs.Sum.{down-start, down-turn, down-fits, down-done}
 use Rattle.tables.specs.Columns.{entry, written, blank}
 use Rattle.tables.proofs.Columns.{long, write-here, write-row, write-column, blank-clear}
-use Rattle.layout.specs.Results as R
-use Rattle.layout.specs.Genes.{geneTree}
-use Rattle.layout.specs.Genes as L
+use Rattle.layout.specs.inner.Results as R
+use Rattle.layout.specs.inner.Genes.{geneTree}
+use Rattle.layout.specs.inner.Genes as L
 use Rattle.layout.specs.Headers.{costs}
 use Rattle.layout.specs.declared.Header.{Header}
 use Rattle.reconciliation.specs.GeneTrees.{GeneTree}
 use Rattle.reconciliation.proofs.Genes.{parent-gene}
 use Rattle.displayed.specs.Displayed.{Displayed, Tree, common}
-use Rattle.displayed.specs.Tabled.{treeIn}
+use Rattle.displayed.specs.inner.Tabled.{treeIn}
 use Rattle.displayed.specs.Mapping.{place, event, isDuplication, transfers, losses, duplicationCount, transferCount, lossCount, lcaCost}
 use Rattle.displayed.proofs.Places.{place-leaf, place-inner, place-node}
 use Rattle.displayed.proofs.Children.{root-transfers, root-losses, child-transfers, child-losses}
 use Rattle.displayed.proofs.Events.{event-leaf, event-inner, duplication-inner}
 use Rattle.displayed.proofs.Gathering.{by-parents}
 use Rattle.displayed.proofs.Bounds.{duplications-few, transfers-few, losses-under}
-use Rattle.mapping.specs.Climbs.{treeOf}
-use Rattle.mapping.specs.Pairs.{eventBy, Paired}
-use Rattle.mapping.specs.Evaluation.{Family, LeavesUpto, Lent, Seats, seatedBy, sentTo, notedBy, Room, raisedBy, Counted, totalOf, scoreOf, ofChildren, Upto, Evaluated}
+use Rattle.mapping.specs.inner.Climbs.{treeOf}
+use Rattle.mapping.specs.inner.Pairs.{eventBy, Paired}
+use Rattle.mapping.specs.inner.Evaluation.{Family, LeavesUpto, Lent, Seats, seatedBy, sentTo, notedBy, Room, raisedBy, Counted, totalOf, scoreOf, ofChildren, Upto, Evaluated}
 use Rattle.mapping.specs.declared.Steps.{Steps}
 use Rattle.mapping.specs.declared.Pair.{Pair}
 use Rattle.mapping.specs.declared.Score.{Score}

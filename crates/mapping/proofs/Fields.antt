@@ -9,11 +9,11 @@ use native.Mathlib.Nat.{mul-le-mul}
 use lib.Dec.{eqb}
 use Rattle.finite.specs.Tests.{same}
 use Rattle.finite.proofs.Tests.{is-same, not-same}
-use Rattle.layout.specs.Tree.{up, lateral}
+use Rattle.layout.specs.inner.Tree.{up, lateral}
 use Rattle.layout.specs.declared.Header.{Header}
-use Rattle.mapping.specs.Climbs.{forkIn, climbedBy}
-use Rattle.mapping.specs.Pairs.{sentBy, passedBy}
-use Rattle.mapping.specs.Evaluation.{raisedBy, Counted}
+use Rattle.mapping.specs.inner.Climbs.{forkIn, climbedBy}
+use Rattle.mapping.specs.inner.Pairs.{sentBy, passedBy}
+use Rattle.mapping.specs.inner.Evaluation.{raisedBy, Counted}
 use Rattle.mapping.specs.declared.Way.{Way}
 use Rattle.mapping.specs.declared.Steps.{Steps}
 use Rattle.mapping.specs.declared.Pair.{Pair}

@@ -10,15 +10,15 @@ use native.Mathlib.Omega.{arith}
 use Rattle.finite.specs.Tests.{same, tally}
 use Rattle.finite.proofs.Tests.{tally-le}
 use Rattle.topology.proofs.Climbing.{meet-over-left, meet-over-right}
-use Rattle.layout.specs.Tree.{up, lateral, rank, arcs}
+use Rattle.layout.specs.inner.Tree.{up, lateral, rank, arcs}
 use Rattle.displayed.specs.Displayed.{Displayed, NodeOf, Tree, reaches, common, way}
-use Rattle.displayed.specs.Arcs.{move, mark}
-use Rattle.displayed.specs.Tabled.{treeIn}
+use Rattle.displayed.specs.inner.Arcs.{move, mark}
+use Rattle.displayed.specs.inner.Tabled.{treeIn}
 use Rattle.displayed.proofs.Trees.{common-node}
 use Rattle.displayed.proofs.Ways.{way-le}
 use Rattle.displayed.proofs.Tabled.{read-up, read-rank, read-lateral, read-forks}
 use Rattle.displayed.proofs.Meeting as M
-use Rattle.mapping.specs.Climbs.{forkIn, treeOf, Climbable, Light, climbedBy, Meeting}
+use Rattle.mapping.specs.inner.Climbs.{forkIn, treeOf, Climbable, Light, climbedBy, Meeting}
 use Rattle.mapping.specs.declared.Way.{Way}
 
 pub fork-le : (t : List ℕ) (v : ℕ) → forkIn t v ≤ 1

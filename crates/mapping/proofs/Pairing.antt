@@ -11,15 +11,15 @@ use Rattle.finite.specs.Tests.{same}
 use Rattle.finite.proofs.Cases.{byEq, byBool, clash}
 use Rattle.finite.proofs.Tests.{is-same, not-same, and-yes}
 use Rattle.topology.proofs.Climbing.{meet-spec, meet-over-left, meet-over-right}
-use Rattle.layout.specs.Tree.{up, lateral}
+use Rattle.layout.specs.inner.Tree.{up, lateral}
 use Rattle.displayed.specs.Displayed.{Displayed, NodeOf, Tree, reaches, common, departure}
 use Rattle.displayed.specs.Mapping.{sends}
-use Rattle.displayed.specs.Arcs.{mark}
+use Rattle.displayed.specs.inner.Arcs.{mark}
 use Rattle.displayed.proofs.Trees.{common-node, not-below}
 use Rattle.displayed.proofs.Departures.{depart-self, departing, departure-node, depart-le}
 use Rattle.displayed.proofs.Events.{Sends, sends-is, is-sends}
-use Rattle.mapping.specs.Climbs.{forkIn, treeOf, Climbable, IsWay, Meeting}
-use Rattle.mapping.specs.Pairs.{sentBy, eventBy, Passable, passedBy, IsSteps, Paired}
+use Rattle.mapping.specs.inner.Climbs.{forkIn, treeOf, Climbable, IsWay, Meeting}
+use Rattle.mapping.specs.inner.Pairs.{sentBy, eventBy, Passable, passedBy, IsSteps, Paired}
 use Rattle.mapping.specs.declared.Way.{Way}
 use Rattle.mapping.specs.declared.Met.{Met}
 use Rattle.mapping.specs.declared.Pair.{Pair}

@@ -1,3 +1,1 @@
-pub mod Climbs
-pub mod Pairs
-pub mod Evaluation
+pub mod inner

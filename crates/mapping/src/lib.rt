@@ -14,14 +14,14 @@ ghost use mathlib.Core.Path.{_≡_};
 ghost use Prim.Native.Nat.{ℕ, _+_, _-_, _≤_, _<_};
 ghost use Rattle.finite.specs.Tests.{same, tally};
 ghost use Rattle.tables.specs.Columns.{blank};
-ghost use Rattle.layout.specs.Tree.{up as upIn, lateral as lateralIn, arcs as arcsIn};
-ghost use Rattle.layout.specs.Genes.{left as leftIn, leaf as leafIn, geneTree};
-ghost use Rattle.layout.specs.Results.{place as placeIn};
+ghost use Rattle.layout.specs.inner.Tree.{up as upIn, lateral as lateralIn, arcs as arcsIn};
+ghost use Rattle.layout.specs.inner.Genes.{left as leftIn, leaf as leafIn, geneTree};
+ghost use Rattle.layout.specs.inner.Results.{place as placeIn};
 ghost use Rattle.layout.specs.Headers.{costs};
 ghost use Rattle.displayed.specs.Displayed.{NodeOf};
-ghost use Rattle.mapping.specs.Climbs.{forkIn, treeOf, Climbable, Light, climbedBy, Meeting};
-ghost use Rattle.mapping.specs.Pairs.{sentBy, eventBy, Passable, passedBy, Paired};
-ghost use Rattle.mapping.specs.Evaluation.{Family, Seats, seatedBy, sentTo, notedBy, Room, raisedBy, Upto, Counted, totalOf, scoreOf, LeavesUpto, Lent, Evaluated};
+ghost use Rattle.mapping.specs.inner.Climbs.{forkIn, treeOf, Climbable, Light, climbedBy, Meeting};
+ghost use Rattle.mapping.specs.inner.Pairs.{sentBy, eventBy, Passable, passedBy, Paired};
+ghost use Rattle.mapping.specs.inner.Evaluation.{Family, Seats, seatedBy, sentTo, notedBy, Room, raisedBy, Upto, Counted, totalOf, scoreOf, LeavesUpto, Lent, Evaluated};
 
 // A way, climbed from its lower end: the transfers, the losses of a gene that passes every node above its lower end, and the arc climbed last, by its
 // lower end, 0 where none was.

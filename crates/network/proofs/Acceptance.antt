@@ -24,7 +24,7 @@ use Rattle.layout.specs.Lines.{principal, secondary, nodesIn}
 use Rattle.shapes.specs.Refusals.{refusal8, IsLeaf, Shape, reticulation, inner, leaf, shapelessAt, refusal9, Refusal9, leaf-without, other-with, two-alike, childAt, reticulationIfChild, onlyReticulationsAt, refusal10, Child, by-principal, by-secondary, afterEight, shapeRefusals}
 use Rattle.shapes.proofs.Readings.{shape-at, reading-9, child-is, is-child}
 use Rattle.network.specs.Refusals.{refusal6, OneRoot, Refusal6, principal-above, secondary-above, root-secondary, refusal7, principal-not-below, secondary-not-equal, afterSix, networkRefusals}
-use Rattle.network.specs.Accepted.{NoOthers, PlainChild, AcceptedNetwork}
+use Rattle.network.specs.inner.Accepted.{NoOthers, PlainChild, AcceptedNetwork}
 use Rattle.network.proofs.Readings.{one-root, roots-6, reading-6, reading-7}
 
 -- a child is counted

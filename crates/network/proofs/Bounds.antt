@@ -11,7 +11,7 @@ use Rattle.finite.proofs.Count.{children-few, children-all}
 use Rattle.topology.specs.Networks.{Network, Node, Sound, isReticulation, reticulations}
 use Rattle.topology.specs.Lines.{NodeLines, network}
 use Rattle.shapes.specs.Refusals.{Shape, reticulation, inner, leaf}
-use Rattle.network.specs.Accepted.{AcceptedNetwork}
+use Rattle.network.specs.inner.Accepted.{AcceptedNetwork}
 
 module _ (N : Network) (ok : Sound N) (shape : (v : ℕ) → Node N v → Shape N v) where
   open Network N using (size, principal, secondary)

@@ -6,7 +6,7 @@ use Rattle.topology.specs.Networks.{Network, Sound}
 use Rattle.topology.specs.Switchings.{Switching}
 use Rattle.reconciliation.specs.GeneTrees.{GeneTree, Rooted, Seated}
 use Rattle.reconciliation.specs.Costs.{Costs}
-use Rattle.displayed.specs.Charges as T
+use Rattle.displayed.specs.inner.Charges as T
 use Rattle.displayed.specs.Displays.{switched, display, base}
 use Rattle.displayed.specs.Model.{treeOf, lcaCost}
 use Rattle.displayed.proofs.Nodes.{cost-nodes}

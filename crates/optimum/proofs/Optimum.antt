@@ -19,7 +19,7 @@ use Rattle.topology.proofs.Components.{component-node}
 use Rattle.reconciliation.specs.GeneTrees.{GeneTree, Rooted, Seated}
 use Rattle.reconciliation.specs.Costs.{Costs}
 use Rattle.displayed.specs.Model.{lcaCost}
-use Rattle.optimum.specs.Separable.{Separable, only, joined, BestParts}
+use Rattle.optimum.specs.inner.Separable.{Separable, only, joined, BestParts}
 use Rattle.optimum.specs.Optimum.{Least, Local, trial, bestSetting, assembled, chosen, Optimal}
 use Rattle.optimum.proofs.Locality.{charge, charged}
 use Rattle.optimum.proofs.Separable.{only-in, only-out, joined-least, joined-first, least-parts}

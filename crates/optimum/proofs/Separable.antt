@@ -13,7 +13,7 @@ use Rattle.finite.proofs.Cases.{byEq, byOrder, clash}
 use Rattle.finite.proofs.Tests.{is-same, not-same, is-under, not-under}
 use Rattle.finite.proofs.Sum.{sum-same, sum-four}
 use Rattle.topology.specs.Switchings.{Switching, NotAfter, equal, before}
-use Rattle.optimum.specs.Separable.{Separable, only, joined, BestParts}
+use Rattle.optimum.specs.inner.Separable.{Separable, only, joined, BestParts}
 
 pub only-in : (part : ℕ → ℕ) (c : ℕ) (σ : Switching) (r : ℕ) → part r ≡ c → only part c σ r ≡ σ r
 unfolding only

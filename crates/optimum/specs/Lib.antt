@@ -1,3 +1,3 @@
-pub mod Separable
 pub mod Optimum
 pub mod Machine
+pub mod inner

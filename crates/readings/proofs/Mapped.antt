@@ -20,7 +20,7 @@ use Rattle.displayed.specs.Displayed.{Displayed, NodeOf, Tree, reaches}
 use Rattle.displayed.specs.Mapping.{SeatedIn}
 use Rattle.displayed.specs.Mapping as T
 use Rattle.displayed.specs.Displays.{switched, display, base, twoArcs}
-use Rattle.displayed.specs.Charges.{onWay}
+use Rattle.displayed.specs.inner.Charges.{onWay}
 use Rattle.displayed.specs.Model.{treeOf, place, event, transfers, losses, duplicationCount, transferCount, lossCount, lcaCost}
 use Rattle.displayed.proofs.Places as P
 use Rattle.displayed.proofs.Events as E

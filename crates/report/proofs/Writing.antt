@@ -20,12 +20,12 @@ use Rattle.columns.proofs.Writing.{put-put, put-written, put-nil, put-front, le
 use Rattle.topology.specs.Networks.{isReticulation}
 use Rattle.topology.specs.Lines.{network}
 use Rattle.layout.specs.Lines.{secondary}
-use Rattle.layout.specs.Tree.{up, lateral}
-use Rattle.layout.specs.Parts.{top, reticulationCount}
-use Rattle.layout.specs.Results.{place, event, transfers, losses}
+use Rattle.layout.specs.inner.Tree.{up, lateral}
+use Rattle.layout.specs.inner.Parts.{top, reticulationCount}
+use Rattle.layout.specs.inner.Results.{place, event, transfers, losses}
 use Rattle.layout.proofs.Numbered.{secondary-in}
 use Rattle.report.specs.declared.Totals.{Totals}
-use Rattle.report.specs.Tables.{hasSecondary, reticulationIn, SmallNode, SmallGene}
+use Rattle.report.specs.inner.Tables.{hasSecondary, reticulationIn, SmallNode, SmallGene}
 use Rattle.report.specs.Reports.{fiveOf, totalsLines, linesWhere, always, reticulationFields, geneFields, reportOf, reportLength, SmallFive, Appended, Extended}
 
 -- five numbers that have fields

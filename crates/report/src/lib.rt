@@ -21,7 +21,7 @@ ghost use Rattle.finite.specs.Range.{count};
 ghost use Rattle.columns.specs.Writing.{written};
 ghost use Rattle.text_lines.specs.Lines.{lineLength};
 ghost use Rattle.report.specs.Reports.{SmallTotals, totalsLines, always, fiveOf, reportLength, SmallFive, Appended, Extended};
-ghost use Rattle.report.specs.Tables.{hasSecondary, reticulationIn, reticulationNumbers, geneNumbers, tabledReport, SmallNode, SmallNodes, SmallGene, SmallGenes};
+ghost use Rattle.report.specs.inner.Tables.{hasSecondary, reticulationIn, reticulationNumbers, geneNumbers, tabledReport, SmallNode, SmallNodes, SmallGene, SmallGenes};
 
 // The numbers of the first two lines.
 pub struct Totals {

@@ -24,7 +24,7 @@ use Rattle.layout.specs.declared.Header.{Header}
 use Rattle.topology.specs.Networks.{Sound}
 use Rattle.network.specs.Refusals.{networkRefusals}
 use Rattle.network.proofs.Acceptance as Acceptance
-use Rattle.components.specs.Filling.{Dated}
+use Rattle.components.specs.inner.Filling.{Dated}
 use Rattle.sheet.specs.Sheets.{headerIn, nodes, genes, lineNo, limits, refusal3, refusal4, refusal5, headerOf, whole, nodeLine, geneLine, cell, cellsOf, nodeNumbered, geneNumbered}
 use Rattle.sheet.specs.declared.Headed.the-variants.{Header as accepted, Refused as headerRefused}
 use Rattle.sheet.proofs.Limits.{limits-is}
@@ -34,11 +34,11 @@ use Rattle.score.specs.declared.Answer.{Answer}
 use Rattle.score.specs.declared.Answer.the-variants.{Report, Refused}
 use Rattle.family.specs.Families.{Contents}
 use Rattle.family.specs.Buffers.{leastWords, leastBytes}
-use Rattle.family.specs.Stages.{contentsBy, Written}
+use Rattle.family.specs.inner.Stages.{contentsBy, Written}
 use Rattle.score.specs.Contents.{nodeLines, geneLines, contentsOf}
 use Rattle.score.specs.Refusals.{curatorRefusals, refusal}
 use Rattle.score.specs.Outcome.{answerBy, resultBy, scratchBy, Outcome}
-use Rattle.score.specs.Stages.{Numbered, OutcomeBy, OutcomeOf}
+use Rattle.score.specs.inner.Stages.{Numbered, OutcomeBy, OutcomeOf}
 use Rattle.score.proofs.Refusals.{refusal-1, refusal-2, refusal-3, refusal-4, refusal-5, refusal-later}
 
 -- a refusal, and a report

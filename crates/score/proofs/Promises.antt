@@ -16,8 +16,8 @@ use Rattle.topology.specs.Lines.{network}
 use Rattle.layout.specs.Headers.{costs, WithinLimits}
 use Rattle.sheet.specs.Sheets.{headerIn, refusal4}
 use Rattle.sheet.proofs.Limits.{limits-is}
-use Rattle.network.specs.Accepted.{NoOthers}
-use Rattle.acceptance.specs.Admitted.{Admitted}
+use Rattle.network.specs.inner.Accepted.{NoOthers}
+use Rattle.acceptance.specs.inner.Admitted.{Admitted}
 use Rattle.score.specs.declared.Answer.{Answer}
 use Rattle.score.specs.declared.Answer.the-variants.{Report, Refused}
 use Rattle.family.specs.Families.{Contents}

@@ -16,7 +16,7 @@ use Rattle.topology.specs.Networks.{Sound}
 use Rattle.sheet.specs.Sheets.{refusal3, refusal4, refusal5}
 use Rattle.sheet.proofs.Refusals.{reading-3, reading-4, reading-5}
 use Rattle.network.specs.Refusals.{networkRefusals}
-use Rattle.network.specs.Accepted.{NoOthers}
+use Rattle.network.specs.inner.Accepted.{NoOthers}
 use Rattle.network.proofs.Acceptance.{accepted}
 use Rattle.network.proofs.Readings.{network-tells}
 use Rattle.components.specs.Refusals.{componentRefusals}
@@ -25,7 +25,7 @@ use Rattle.gene_tree.specs.Refusals.{geneRefusals}
 use Rattle.gene_tree.proofs.Refusals.{gene-tell}
 use Rattle.family.specs.Families.{Contents}
 use Rattle.family.specs.Buffers.{leastWords, leastBytes}
-use Rattle.family.specs.Stages.{Passed}
+use Rattle.family.specs.inner.Stages.{Passed}
 use Rattle.score.specs.Contents.{contentsOf}
 use Rattle.score.specs.Refusals.{bufferRefusals, textRefusals, curatorRefusals, refusals, refusal}
 

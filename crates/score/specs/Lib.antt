@@ -1,4 +1,4 @@
 pub mod Contents
 pub mod Refusals
 pub mod Outcome
-pub mod Stages
+pub mod inner

@@ -7,12 +7,12 @@ ghost use mathlib.Core.Path.{_≡_};
 ghost use lib.ListN.{length};
 ghost use Rattle.finite.specs.Refusals.{verdict};
 ghost use Rattle.layout.specs.Lines.{nodesIn};
-ghost use Rattle.layout.specs.Parts.{Parted};
+ghost use Rattle.layout.specs.inner.Parts.{Parted};
 ghost use Rattle.topology.specs.Lines.{network};
 ghost use Rattle.network.specs.Refusals.{networkRefusals};
 ghost use Rattle.score.specs.Outcome.{Promise};
-ghost use Rattle.family.specs.Stages.{Sized};
-ghost use Rattle.score.specs.Stages.{Lined, Numbered, Curated, OutcomeBy, OutcomeOf};
+ghost use Rattle.family.specs.inner.Stages.{Sized};
+ghost use Rattle.score.specs.inner.Stages.{Lined, Numbered, Curated, OutcomeBy, OutcomeOf};
 
 // The least scratch, in words, and the least result, in bytes.
 pub const LEAST_WORDS: usize = 16129;

@@ -14,7 +14,7 @@
  *   1 to 13  a refusal: no byte of result and no word of scratch has changed;
  *   else     how many bytes of report it wrote to result; scratch begins with the table of the
  *            whole network, genes by nodes, and all else in both buffers is as it was.
- * A report has at least two lines of 31 bytes, so the two cannot be mistaken.
+ * A report has at least three lines of 31 bytes: a number below 93 is a refusal, every other a report.
  * The three buffers must not overlap, must be aligned for their types, and their lengths count
  * elements. No pointer may be NULL, not even with length 0. Nothing is allocated or kept.
  */

@@ -14,20 +14,20 @@ use Rattle.topology.specs.Switchings.{Switching, onSecondary, onArcs}
 use Rattle.topology.specs.Lines.{network}
 use Rattle.topology.proofs.Above.{parent-cases, byNode}
 use Rattle.layout.specs.Lines.{nodesIn}
-use Rattle.layout.specs.Tree.{up, lateral, rank, arcs, Held}
+use Rattle.layout.specs.inner.Tree.{up, lateral, rank, arcs, Held}
 use Rattle.layout.specs.Headers.{costs}
 use Rattle.layout.specs.declared.Header.{Header}
 use Rattle.reconciliation.specs.GeneTrees.{GeneTree}
 use Rattle.displayed.specs.Displayed.{Displayed, NodeOf}
 use Rattle.displayed.specs.Displays.{switched, display, base, twoArcs}
-use Rattle.displayed.specs.Tabled.{treeIn, Holds}
+use Rattle.displayed.specs.inner.Tabled.{treeIn, Holds}
 use Rattle.displayed.specs.Model as D
 use Rattle.displayed.proofs.Model.{table-tree, table-seated, table-place, table-event, table-transfers, table-losses, table-duplicationCount, table-transferCount, table-lossCount, table-cost}
 use Rattle.displayed.proofs.Displays.{on-arcs, no-third}
-use Rattle.mapping.specs.Climbs.{forkIn, treeOf, Climbable}
-use Rattle.mapping.specs.Evaluation.{Family, scoreOf, Evaluated}
+use Rattle.mapping.specs.inner.Climbs.{forkIn, treeOf, Climbable}
+use Rattle.mapping.specs.inner.Evaluation.{Family, scoreOf, Evaluated}
 use Rattle.mapping.specs.declared.Score.{Score}
-use Rattle.search.specs.Prepared.{networkOf, genesOf, Prepared, Reconciled, scoreUnder}
+use Rattle.search.specs.inner.Prepared.{networkOf, genesOf, Prepared, Reconciled, scoreUnder}
 
 module _ (h : Header) (lines parts genes : List ℕ) (P : Prepared h lines parts genes) (σ : Switching) (t : List ℕ) (H : Held (networkOf h lines) σ t) where
   abbrev N : Network

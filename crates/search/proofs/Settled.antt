@@ -5,7 +5,7 @@ use mathlib.Core.Bool.{true, false}
 use mathlib.Core.List.{List}
 use Prim.Native.Nat.{ℕ, _+_}
 use Rattle.tables.specs.Columns.{written}
-use Rattle.search.specs.Steps.{takes, settledStage, settledChoices, SettledBy}
+use Rattle.search.specs.inner.Steps.{takes, settledStage, settledChoices, SettledBy}
 use Rattle.search.specs.declared.Stage.{Stage}
 
 module _ (s : Stage) (cost : ℕ) (before : List ℕ) where

@@ -18,7 +18,7 @@ use Rattle.finite.proofs.Count.{count-le}
 use Rattle.finite.proofs.Least.{least-none}
 use Rattle.tables.specs.Columns.{written, blank}
 use Rattle.tables.proofs.Columns.{long, write-here, write-row, write-column, blank-clear}
-use Rattle.layout.specs.Choices.{setting, best}
+use Rattle.layout.specs.inner.Choices.{setting, best}
 use Rattle.topology.specs.Networks.{Network, Sound, isReticulation, reticulations}
 use Rattle.topology.specs.Components.{reticulationCount, settingOf}
 use Rattle.reconciliation.specs.GeneTrees.{GeneTree}
@@ -33,7 +33,7 @@ use Rattle.optimum.proofs.Search.{score-take, score-keep, search-start, search-
 use Rattle.optimum.proofs.Bounds.{trials-le}
 use Rattle.switching.proofs.Settings.{alone-agree}
 use Rattle.search.specs.declared.Stage.{Stage}
-use Rattle.search.specs.Steps.{takes, Settling, settledStage, settledChoices, SettledBy, Finished, Reached, Last}
+use Rattle.search.specs.inner.Steps.{takes, Settling, settledStage, settledChoices, SettledBy, Finished, Reached, Last}
 
 -- scoring a component's first setting, number 0, leaves it at 0
 lesser-itself : (f : ℕ → ℕ) (b : ℕ) → lesser f b b ≡ b

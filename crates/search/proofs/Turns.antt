@@ -6,10 +6,10 @@ use Prim.Native.Nat.{ℕ, _+_, _≤_, _<_}
 use native.Mathlib.Omega.{arith}
 use Rattle.tables.specs.Columns.{entry, written, blank}
 use Rattle.layout.specs.Lines.{nodesIn}
-use Rattle.layout.specs.Parts as Parts
-use Rattle.layout.specs.Tree.{Held}
-use Rattle.layout.specs.Choices.{best}
-use Rattle.layout.specs.Genes.{left, leaf, geneTree}
+use Rattle.layout.specs.inner.Parts as Parts
+use Rattle.layout.specs.inner.Tree.{Held}
+use Rattle.layout.specs.inner.Choices.{best}
+use Rattle.layout.specs.inner.Genes.{left, leaf, geneTree}
 use Rattle.layout.specs.Headers.{costs}
 use Rattle.layout.specs.declared.Header.{Header}
 use Rattle.topology.specs.Networks.{Network}
@@ -22,12 +22,12 @@ use Rattle.displayed.specs.Model.{lcaCost}
 use Rattle.optimum.specs.Optimum.{assembled, trialsOf, settings, trials}
 use Rattle.optimum.proofs.Search.{search-state, last-count, last-best, last-optimal}
 use Rattle.switching.proofs.Turning.{some-held}
-use Rattle.mapping.specs.Climbs.{treeOf}
-use Rattle.mapping.specs.Evaluation.{Family, Lent, scoreOf, Evaluated}
+use Rattle.mapping.specs.inner.Climbs.{treeOf}
+use Rattle.mapping.specs.inner.Evaluation.{Family, Lent, scoreOf, Evaluated}
 use Rattle.mapping.specs.declared.Score.{Score}
-use Rattle.search.specs.Prepared.{networkOf, genesOf, Prepared, Working, Assembled, scoreUnder}
-use Rattle.search.specs.Steps.{Settling, SettledBy, Finished, Reached, Awaiting, Last}
-use Rattle.search.specs.Searched.{Searched}
+use Rattle.search.specs.inner.Prepared.{networkOf, genesOf, Prepared, Working, Assembled, scoreUnder}
+use Rattle.search.specs.inner.Steps.{Settling, SettledBy, Finished, Reached, Awaiting, Last}
+use Rattle.search.specs.inner.Searched.{Searched}
 use Rattle.search.specs.declared.Stage.{Stage}
 use Rattle.search.proofs.Assembling.{family, score-is, genes-are}
 use Rattle.search.proofs.Steps as S

@@ -1,3 +1,1 @@
-pub mod Prepared
-pub mod Steps
-pub mod Searched
+pub mod inner

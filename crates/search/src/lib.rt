@@ -16,9 +16,9 @@ ghost use Prim.Native.Nat.{_+_, _≤_, _<_};
 ghost use Rattle.tables.specs.Columns.{entry, blank};
 ghost use Rattle.layout.specs.Headers.{costs};
 ghost use Rattle.optimum.specs.Optimum.{trialsOf};
-ghost use Rattle.search.specs.Prepared.{networkOf, genesOf, Prepared, Working, Assembled};
-ghost use Rattle.search.specs.Steps.{takes, Settling, SettledBy, Awaiting, Finished, Reached, Last};
-ghost use Rattle.search.specs.Searched.{Searched};
+ghost use Rattle.search.specs.inner.Prepared.{networkOf, genesOf, Prepared, Working, Assembled};
+ghost use Rattle.search.specs.inner.Steps.{takes, Settling, SettledBy, Awaiting, Finished, Reached, Last};
+ghost use Rattle.search.specs.inner.Searched.{Searched};
 
 // Where the search stands: all settings of the components up to one are scored, and of the next component those below a setting, the best of which costs
 // the least; and so many settings are scored in all.

@@ -18,8 +18,8 @@ use Rattle.topology.specs.Lines.{NodeLines}
 use Rattle.layout.specs.Lines.{principal, secondary, nodeSpecies, nodesIn}
 use Rattle.layout.proofs.Numbered.{size-in, principal-in, secondary-in, species-in, principals-in, secondaries-in, bearers-in}
 use Rattle.shapes.specs.Refusals.{leafWith, leafAt, shapeless, shapelessAt, refusal10}
-use Rattle.shapes.specs.ShortForms.{wrongSpecies, wrongSpeciesAt, plainParent, plainParentAt, onlyReticulations}
-use Rattle.shapes.specs.Counts.{principals, secondaries, plains, Counts, onlyReticulationsIn}
+use Rattle.shapes.specs.inner.ShortForms.{wrongSpecies, wrongSpeciesAt, plainParent, plainParentAt, onlyReticulations}
+use Rattle.shapes.specs.inner.Counts.{principals, secondaries, plains, Counts, onlyReticulationsIn}
 use Rattle.shapes.proofs.ShortForms.{only-iff}
 
 -- 10 by the counts of v, and of some node

@@ -16,7 +16,7 @@ use Rattle.topology.specs.Networks.{Node}
 use Rattle.topology.specs.Lines.{NodeLines, network}
 use Rattle.topology.proofs.Lines.{node-of, node-high}
 use Rattle.shapes.specs.Refusals.{reticulationWith, innerWith, leafWith, shapeless, leafAt, refusal9, Refusal9, leaf-without, other-with, two-alike, childAt, reticulationIfChild, onlyReticulationsAt, Child, by-principal, by-secondary}
-use Rattle.shapes.specs.ShortForms.{wrongSpecies, wrongSpeciesAt, plainParent, plainParentAt, onlyReticulations}
+use Rattle.shapes.specs.inner.ShortForms.{wrongSpecies, wrongSpeciesAt, plainParent, plainParentAt, onlyReticulations}
 use Rattle.shapes.proofs.Readings.{leaf-at-is, is-leaf-at, leaf-at-not, not-leaf-at, reading-9, child-is, is-child}
 
 and-swap : (a b : Bool) → (a && b) ≡ (b && a)

@@ -1,3 +1,2 @@
 pub mod Refusals
-pub mod ShortForms
-pub mod Counts
+pub mod inner

@@ -10,8 +10,8 @@ ghost use Prim.Native.Nat.{_≤_};
 ghost use Rattle.finite.specs.Range.{children};
 ghost use Rattle.tables.specs.Columns.{column, blank, Clear};
 ghost use Rattle.layout.specs.Lines.{nodesIn, principal, secondary};
-ghost use Rattle.shapes.specs.ShortForms.{plainParent, plainParentAt};
-ghost use Rattle.shapes.specs.Counts.{plainsColumn, Counts};
+ghost use Rattle.shapes.specs.inner.ShortForms.{plainParent, plainParentAt};
+ghost use Rattle.shapes.specs.inner.Counts.{plainsColumn, Counts};
 
 pub const PRINCIPALS: usize = 0;
 

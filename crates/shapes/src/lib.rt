@@ -13,7 +13,7 @@ ghost use Prim.Native.Nat.{_≤_};
 ghost use Rattle.finite.specs.Refusals.{verdict};
 ghost use Rattle.layout.specs.Lines.{nodesIn};
 ghost use Rattle.shapes.specs.Refusals.{afterEight, shapeRefusals};
-ghost use Rattle.shapes.specs.Counts.{Counts};
+ghost use Rattle.shapes.specs.inner.Counts.{Counts};
 
 fn after_eight(n: usize, lines: &Lines, counts: &Table) -> u32
     requires { ⌜ n ≤ 127 ⌝ }

@@ -17,8 +17,8 @@ ghost use Prim.Native.Nat.{_≤_};
 ghost use Rattle.finite.specs.Range.{any, children};
 ghost use Rattle.layout.specs.Lines.{nodesIn, nodeSpecies};
 ghost use Rattle.shapes.specs.Refusals.{leafWith, shapeless, refusal8, refusal9};
-ghost use Rattle.shapes.specs.ShortForms.{wrongSpeciesAt, onlyReticulations};
-ghost use Rattle.shapes.specs.Counts.{Counts, onlyReticulationsIn};
+ghost use Rattle.shapes.specs.inner.ShortForms.{wrongSpeciesAt, onlyReticulations};
+ghost use Rattle.shapes.specs.inner.Counts.{Counts, onlyReticulationsIn};
 
 // 8: of one node, by its parents and the numbers of principal and secondary arcs out.
 fn shapeless(p: usize, s: usize, a: usize, b: usize) -> bool

@@ -15,14 +15,14 @@ use Rattle.topology.specs.Lines.{network}
 use Rattle.topology.proofs.Above.{reticulation-node}
 use Rattle.topology.proofs.Components.{component-node, is-member}
 use Rattle.layout.specs.Lines.{secondary, nodesIn}
-use Rattle.layout.specs.Parts.{top, index, Parted}
-use Rattle.layout.specs.Parts as Parts
-use Rattle.layout.specs.Tree.{Held}
+use Rattle.layout.specs.inner.Parts.{top, index, Parted}
+use Rattle.layout.specs.inner.Parts as Parts
+use Rattle.layout.specs.inner.Tree.{Held}
 use Rattle.layout.proofs.Numbered.{secondary-in}
 use Rattle.optimum.specs.Optimum.{assembled}
 use Rattle.optimum.proofs.Settings.{setting-outside, setting-principal, index-bit}
-use Rattle.switching.specs.Settings.{bitOf}
-use Rattle.switching.specs.Turning.{turned, Turns, SomeHeld, TurnedTo}
+use Rattle.switching.specs.inner.Settings.{bitOf}
+use Rattle.switching.specs.inner.Turning.{turned, Turns, SomeHeld, TurnedTo}
 use Rattle.switching.proofs.Turning.{held-agree, turned-here, turned-other}
 
 pub bit-low : (x k j : ℕ) {b : ℕ} → b ≡ bitOf x k j → b ≤ 1

@@ -17,9 +17,9 @@ use Rattle.topology.specs.Switchings.{allPrincipal, onSecondary, parent, onArcs
 use Rattle.topology.specs.Lines.{network}
 use Rattle.topology.proofs.Above.{parent-principal}
 use Rattle.layout.specs.Lines.{principal, nodesIn}
-use Rattle.layout.specs.Parts as P
-use Rattle.layout.specs.Parts.{Parted}
-use Rattle.layout.specs.Tree.{upColumn, lateralColumn, rankColumn, arcsColumn, Held}
+use Rattle.layout.specs.inner.Parts as P
+use Rattle.layout.specs.inner.Parts.{Parted}
+use Rattle.layout.specs.inner.Tree.{upColumn, lateralColumn, rankColumn, arcsColumn, Held}
 
 -- a principal parent fits
 pub principal-low : (n : ℕ) (l : List ℕ) → n ≤ 127 → Sound (network (nodesIn n l)) → (v x : ℕ) → v < n → x ≡ principal l (v + 1) → x ≤ 127

@@ -22,8 +22,8 @@ use Rattle.reconciliation.proofs.Agreement.{parent-same, secondary-same}
 use Rattle.topology.specs.Lines.{network}
 use Rattle.layout.specs.Lines.{principal, secondary, nodesIn}
 use Rattle.layout.proofs.Numbered.{principal-in, secondary-in}
-use Rattle.layout.specs.Tree.{upColumn, up, lateralColumn, lateral, rankColumn, arcsColumn, arcs, Held}
-use Rattle.switching.specs.Turning.{turned, parentTaken, arcMoved, Turns, SomeHeld}
+use Rattle.layout.specs.inner.Tree.{upColumn, up, lateralColumn, lateral, rankColumn, arcsColumn, arcs, Held}
+use Rattle.switching.specs.inner.Turning.{turned, parentTaken, arcMoved, Turns, SomeHeld}
 
 -- switchings that agree at the reticulations are held alike
 pub held-agree : {N : Network} {σ τ : Switching} {t : List ℕ} → ((r : ℕ) → Reticulation N r → σ r ≡ τ r) → Held N σ t → Held N τ t

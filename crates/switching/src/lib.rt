@@ -13,11 +13,11 @@ ghost use Rattle.topology.specs.Switchings.{allPrincipal};
 ghost use Rattle.topology.specs.Components.{reticulationCount};
 ghost use Rattle.topology.specs.Lines.{network};
 ghost use Rattle.layout.specs.Lines.{principal, secondary, nodesIn};
-ghost use Rattle.layout.specs.Parts.{rank, Parted};
-ghost use Rattle.layout.specs.Tree.{upColumn, rankColumn, arcs, Held};
+ghost use Rattle.layout.specs.inner.Parts.{rank, Parted};
+ghost use Rattle.layout.specs.inner.Tree.{upColumn, rankColumn, arcs, Held};
 ghost use Rattle.optimum.specs.Optimum.{assembled};
-ghost use Rattle.switching.specs.Settings.{bitOf};
-ghost use Rattle.switching.specs.Turning.{parentTaken, arcMoved, Turns, SomeHeld, TurnedTo};
+ghost use Rattle.switching.specs.inner.Settings.{bitOf};
+ghost use Rattle.switching.specs.inner.Turning.{parentTaken, arcMoved, Turns, SomeHeld, TurnedTo};
 
 // The bit of the reticulation with j lower-numbered ones in its component, of a setting's k bits: the highest is the lowest-numbered one's.
 pub fn bit(x: u32, k: u32, j: u32) -> u32

@@ -10,17 +10,17 @@ use Rattle.topology.specs.Networks.{Sound}
 use Rattle.layout.specs.declared.Header.{Header}
 use Rattle.layout.specs.Headers.{WithinLimits}
 use Rattle.layout.specs.Lines.{nodesIn, nodeSpecies}
-use Rattle.layout.specs.Genes.{geneTree}
+use Rattle.layout.specs.inner.Genes.{geneTree}
 use Rattle.layout.proofs.Numbered.{species-in}
 use Rattle.histories.specs.Histories.{leastOver}
 use Rattle.histories.specs.Words.{costOf}
-use Rattle.histories.specs.Rows.{row}
+use Rattle.histories.specs.inner.Rows.{row}
 use Rattle.histories.specs.Families.{outBy, familyOf}
-use Rattle.histories.specs.Promise.{WholeNetwork}
+use Rattle.histories.specs.inner.Promise.{WholeNetwork}
 use Rattle.histories.proofs.Accepted.{out-at, prepared}
 use Rattle.histories.proofs.Promise.{promise}
-use Rattle.arcs.specs.Arcs.{first, second, other, order, networkIn, Laid}
-use Rattle.whole_network.specs.Stages.{familyIn, AcceptedIn, Filling, RowsIn, KeptIn}
+use Rattle.arcs.specs.inner.Arcs.{first, second, other, order, networkIn, Laid}
+use Rattle.whole_network.specs.inner.Stages.{familyIn, AcceptedIn, Filling, RowsIn, KeptIn}
 
 module _ (h : Header) (lines genes : List ℕ) (ok : AcceptedIn h lines genes) where
   pub limits : WithinLimits h

@@ -10,21 +10,21 @@ use lib.ListN.{length, set, drop, length-drop}
 use Rattle.finite.proofs.Cases.{byEq, byLess}
 use Rattle.layout.specs.declared.Header.{Header}
 use Rattle.layout.specs.Lines.{nodeSpecies, geneSpecies, nodesIn}
-use Rattle.layout.specs.Genes.{left, right, geneTree}
+use Rattle.layout.specs.inner.Genes.{left, right, geneTree}
 use Rattle.layout.proofs.Numbered.{gene-species-in}
 use Rattle.histories.specs.Histories.{Cost, ending, stepping, least, Out, one, two, mixed, tip, pair, Family}
-use Rattle.histories.specs.Grades.{Leads}
+use Rattle.histories.specs.inner.Grades.{Leads}
 use Rattle.histories.specs.Words.{costOf, cell}
-use Rattle.histories.specs.Rows.{row, Cell}
+use Rattle.histories.specs.inner.Rows.{row, Cell}
 use Rattle.histories.specs.Families.{outBy, familyOf}
 use Rattle.histories.proofs.Cells.{cell-in, row-costs}
 use Rattle.histories.proofs.Outs.{out-two, out-mixed, out-one}
 use Rattle.histories.proofs.Accepted.{gene-tip, gene-pair}
 use Rattle.histories.proofs.Filling.{turn-low, turn-high, stepping-least, own-cells, child-cells, partly-more, kept-more, kept-none, partly-start, partly-end, rows-none}
-use Rattle.arcs.specs.Arcs.{order, first, second, other}
+use Rattle.arcs.specs.inner.Arcs.{order, first, second, other}
 use Rattle.whole_network.specs.declared.Row.{Row}
-use Rattle.cell_costs.specs.Costs.{Readable, Ends, Children, tipCost, innerCost, tipIn, innerIn}
-use Rattle.whole_network.specs.Stages.{familyIn, Filling, RowOf, InnerRow, RowsIn, PartlyIn, KeptIn}
+use Rattle.cell_costs.specs.inner.Costs.{Readable, Ends, Children, tipCost, innerCost, tipIn, innerIn}
+use Rattle.whole_network.specs.inner.Stages.{familyIn, Filling, RowOf, InnerRow, RowsIn, PartlyIn, KeptIn}
 
 -- the ends, case by case
 lead-one : (P : ℕ → Type 0) (x : ℕ) → Leads P (one x) → P x

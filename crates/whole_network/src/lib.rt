@@ -5,8 +5,8 @@ use layout::genes::Genes;
 use layout::lines::Lines;
 ghost use Prim.Native.Nat.{_-_, _*_, _≤_};
 ghost use lib.ListN.{length};
-ghost use Rattle.histories.specs.Promise.{WholeNetwork};
-ghost use Rattle.whole_network.specs.Stages.{familyIn, AcceptedIn, Filling, TipRow, InnerRow, RowsIn, PartlyIn, KeptIn};
+ghost use Rattle.histories.specs.inner.Promise.{WholeNetwork};
+ghost use Rattle.whole_network.specs.inner.Stages.{familyIn, AcceptedIn, Filling, TipRow, InnerRow, RowsIn, PartlyIn, KeptIn};
 
 // A gene's row: where it begins, of a leaf gene its species, and of an inner gene where its children's rows begin.
 struct Row {

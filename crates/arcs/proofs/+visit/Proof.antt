@@ -2,7 +2,7 @@
 -- parents placed stays, so the node is due after them.
 -- Assumes nothing.
 use mathlib.Core.Path.{_∙_}
-use Rattle.arcs.specs.Arcs.{networkIn}
+use Rattle.arcs.specs.inner.Arcs.{networkIn}
 use Rattle.arcs.proofs.Walks.{stands-already, visited-then, principal-high, secondary-high, principal-falls, secondary-falls, due}
 use native.Mathlib.Omega.{arith}
 use Prim.Native.Nat.{ℕ, _<_}

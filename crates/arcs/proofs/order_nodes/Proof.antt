@@ -6,7 +6,7 @@ use Rattle.topology.specs.Lines.{network}
 use Rattle.layout.specs.Lines.{nodesIn}
 use Rattle.tables.specs.Columns.{blank}
 use Rattle.tables.proofs.Columns.{blank-clear}
-use Rattle.arcs.specs.Arcs.{networkIn}
+use Rattle.arcs.specs.inner.Arcs.{networkIn}
 use Rattle.arcs.proofs.Walks.{Come, come-none, come-next, come-all}
 use borrow.Author.Needs.{needs}
 use native.Mathlib.Omega.{arith}

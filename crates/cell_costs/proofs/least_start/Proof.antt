@@ -4,8 +4,8 @@ use borrow.Author.Needs.{needs}
 use mathlib.Core.Path.{_≡_}
 use Prim.Native.Nat.{_-_, _≤_}
 use Rattle.histories.specs.Histories.{leastOver}
-use Rattle.histories.specs.Rows.{row}
-use Rattle.cell_costs.specs.Costs.{costIn}
+use Rattle.histories.specs.inner.Rows.{row}
+use Rattle.cell_costs.specs.inner.Costs.{costIn}
 use Rattle.cell_costs.proofs.Starts.{over-loop}
 use Rattle.cell_costs.proofs.least_start.Statement.{statement}
 use Rattle.cell_costs.proofs.least_start.Tie as tie

@@ -2,7 +2,7 @@
 -- Assumes nothing.
 use borrow.Author.Needs.{needs}
 use mathlib.Core.Path.{_∙_}
-use Rattle.cell_costs.specs.Costs.{transferring}
+use Rattle.cell_costs.specs.inner.Costs.{transferring}
 use Rattle.cell_costs.proofs.transferred.Statement.{statement}
 use Rattle.cell_costs.proofs.transferred.Tie as tie
 

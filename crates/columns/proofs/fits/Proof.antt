@@ -2,7 +2,7 @@
 -- Assumes nothing.
 use mathlib.Core.Path.{_∙_}
 use borrow.Author.Tests.{eq-eqb, ne-eqb}
-use Rattle.columns.specs.Scans.{fitting}
+use Rattle.columns.specs.inner.Scans.{fitting}
 use borrow.Author.Needs.{needs}
 use Rattle.columns.proofs.fits.Statement.{statement}
 use Rattle.columns.proofs.fits.Tie as tie

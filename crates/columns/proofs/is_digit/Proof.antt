@@ -1,7 +1,7 @@
 -- Whether a byte is a digit: each way out of the function is a case of `digit`.
 -- Assumes nothing.
 use borrow.Author.Tests.{lt-ltb, le-ltb}
-use Rattle.columns.specs.Scans.{digit}
+use Rattle.columns.specs.inner.Scans.{digit}
 use Rattle.columns.proofs.is_digit.Statement.{statement}
 use Rattle.columns.proofs.is_digit.Tie as tie
 

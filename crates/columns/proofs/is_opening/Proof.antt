@@ -1,7 +1,7 @@
 -- Whether a byte may stand where the number has not begun: each way out of the function is a case of `opening`.
 -- Assumes nothing.
 use borrow.Author.Tests.{eq-eqb, ne-eqb, lt-ltb, le-ltb}
-use Rattle.columns.specs.Scans.{opening}
+use Rattle.columns.specs.inner.Scans.{opening}
 use borrow.Author.Needs.{needs}
 use Rattle.columns.proofs.is_opening.Statement.{statement}
 use Rattle.columns.proofs.is_opening.Tie as tie

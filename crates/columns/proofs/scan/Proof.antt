@@ -8,7 +8,7 @@ use borrow.Author.Tests.{not-true, not-false}
 use borrow.Author.Count.{below-more}
 use lib.ListN.{getD}
 use Rattle.columns.specs.Fields.{worthOf, six}
-use Rattle.columns.specs.Scans.{fitting}
+use Rattle.columns.specs.inner.Scans.{fitting}
 use Rattle.columns.proofs.Columns.{term-bound}
 use Rattle.columns.proofs.Scans.{blank-number, blank-fits, misfit, all-fit, value-small, scan-turn}
 use borrow.Author.Needs.{needs}

@@ -4,7 +4,7 @@ use Prim.Native.Nat.{_-_, _≤_}
 use mathlib.Core.Path.{_≡_, refl, _∙_}
 use lib.ListN.{length, replicate, length-set}
 use lib.Seq.{paste, paste-zero}
-use Rattle.columns.specs.Scans.{frontCount}
+use Rattle.columns.specs.inner.Scans.{frontCount}
 use Rattle.columns.proofs.Writing.{repeat-turn, paste-done, put-front}
 use borrow.Author.Needs.{needs}
 use Rattle.columns.proofs.write_spaces.Statement.{statement}

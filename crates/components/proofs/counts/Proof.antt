@@ -3,7 +3,7 @@
 use Prim.Native.Nat.{_-_, _≤_}
 use Rattle.topology.specs.Lines.{network}
 use Rattle.layout.specs.Lines.{nodesIn}
-use Rattle.components.specs.Filling.{PartedTo}
+use Rattle.components.specs.inner.Filling.{PartedTo}
 use Rattle.components.proofs.Filling.{parted-done}
 use borrow.Author.Needs.{needs}
 use Rattle.components.proofs.counts.Statement.{statement}

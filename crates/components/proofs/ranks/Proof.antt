@@ -3,9 +3,9 @@
 use Prim.Native.Nat.{_-_, _≤_}
 use mathlib.Core.Path.{_≡_}
 use Rattle.tables.specs.Columns.{column}
-use Rattle.layout.specs.Parts.{rankColumn}
+use Rattle.layout.specs.inner.Parts.{rankColumn}
 use Rattle.tables.proofs.Columns.{column-none, column-more, column-end}
-use Rattle.components.specs.Filling.{rankAt}
+use Rattle.components.specs.inner.Filling.{rankAt}
 use borrow.Author.Needs.{needs}
 use Rattle.components.proofs.ranks.Statement.{statement}
 use Rattle.components.proofs.ranks.Tie as tie

@@ -4,7 +4,7 @@ use Rattle.finite.specs.Tests.{tally}
 use Prim.Native.Nat.{ℕ}
 use mathlib.Core.Path.{ap, _∙_}
 use borrow.Author.Needs.{needs}
-use Rattle.layout.specs.Parts.{reticulationCount}
+use Rattle.layout.specs.inner.Parts.{reticulationCount}
 use Rattle.finite.specs.Tests.{same}
 use mathlib.Core.Bool.{not}
 use Rattle.finite.proofs.Count.{count-start, count-turn, count-done}

@@ -1,6 +1,6 @@
 -- The numbers of the first two lines: those that were found, and the two counts.
 -- Assumes nothing.
-use Rattle.family.specs.Stages.{totalsBy}
+use Rattle.family.specs.inner.Stages.{totalsBy}
 use borrow.Author.Needs.{needs}
 use Rattle.family.proofs.totals.Statement.{statement}
 use Rattle.family.proofs.totals.Tie as tie

@@ -5,7 +5,7 @@ use mathlib.Core.Path.{_≡_}
 use Rattle.tables.specs.Columns.{column}
 use Rattle.tables.proofs.Columns.{column-none, column-more, column-end}
 use Rattle.layout.specs.Lines.{nodesIn, genesIn}
-use Rattle.layout.specs.Genes.{leafColumn}
+use Rattle.layout.specs.inner.Genes.{leafColumn}
 use Rattle.gene_tree.specs.Genes.{leafOf}
 use Rattle.gene_tree.proofs.Reading.{leaf-read}
 use borrow.Author.Needs.{needs}

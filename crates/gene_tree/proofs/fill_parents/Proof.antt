@@ -5,7 +5,7 @@ use mathlib.Core.Path.{_≡_}
 use Rattle.tables.specs.Columns.{column}
 use Rattle.tables.proofs.Columns.{column-none, column-more, column-end}
 use Rattle.layout.specs.Lines.{genesIn}
-use Rattle.layout.specs.Genes.{parentColumn}
+use Rattle.layout.specs.inner.Genes.{parentColumn}
 use Rattle.gene_tree.proofs.Reading.{parent-copied}
 use borrow.Author.Needs.{needs}
 use Rattle.gene_tree.proofs.fill_parents.Statement.{statement}

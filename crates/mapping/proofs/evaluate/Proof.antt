@@ -4,10 +4,10 @@
 use native.Mathlib.Omega.{arith}
 use borrow.Author.Needs.{needs}
 use Rattle.mapping.proofs.Evaluating.{upto-start, counted, scored, evaluated}
-use Rattle.mapping.specs.Evaluation.{Upto}
-use Rattle.mapping.specs.Climbs.{treeOf}
+use Rattle.mapping.specs.inner.Evaluation.{Upto}
+use Rattle.mapping.specs.inner.Climbs.{treeOf}
 use Rattle.layout.specs.Headers.{costs}
-use Rattle.layout.specs.Genes.{geneTree}
+use Rattle.layout.specs.inner.Genes.{geneTree}
 use Prim.Native.Nat.{_≤_}
 use Rattle.mapping.proofs.evaluate.Statement.{statement}
 use Rattle.mapping.proofs.evaluate.Tie as tie

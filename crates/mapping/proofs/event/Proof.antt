@@ -1,7 +1,7 @@
 -- `mapping::event` meets its contract. The branches settle the tests.
 -- Assumes nothing.
 use Rattle.finite.proofs.Tests.{is-same, not-same}
-use Rattle.mapping.specs.Pairs.{eventBy}
+use Rattle.mapping.specs.inner.Pairs.{eventBy}
 use Rattle.mapping.proofs.event.Statement.{statement}
 use Rattle.mapping.proofs.event.Tie as tie
 

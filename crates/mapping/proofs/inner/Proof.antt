@@ -1,6 +1,6 @@
 -- The pair of children is mapped, and noted at the gene and its children.
 -- Assumes nothing.
-use Rattle.mapping.specs.Evaluation.{notedBy}
+use Rattle.mapping.specs.inner.Evaluation.{notedBy}
 use Rattle.mapping.proofs.Pairing.{paired-few}
 use borrow.Author.Needs.{needs}
 use Rattle.mapping.proofs.inner.Statement.{statement}

@@ -1,6 +1,6 @@
 -- `mapping::mark` meets its contract.
 -- Assumes nothing.
-use Rattle.mapping.specs.Climbs.{forkIn}
+use Rattle.mapping.specs.inner.Climbs.{forkIn}
 use borrow.Author.Needs.{needs}
 use Rattle.mapping.proofs.mark.Statement.{statement}
 use Rattle.mapping.proofs.mark.Tie as tie

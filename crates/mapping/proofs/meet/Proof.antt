@@ -2,7 +2,7 @@
 -- each way counts what was climbed.
 -- Assumes nothing.
 use Rattle.mapping.proofs.Meeting.{Climbing, node-few, climbing-start, left-low, right-low, left-up-low, right-up-low, climbs-left, climbs-right, climbing-left, climbing-right, falls-left, falls-right, climbing-done}
-use Rattle.mapping.specs.Climbs.{treeOf}
+use Rattle.mapping.specs.inner.Climbs.{treeOf}
 use Prim.Native.Nat.{_+_}
 use Rattle.mapping.proofs.meet.Statement.{statement}
 use Rattle.mapping.proofs.meet.Tie as tie

@@ -1,6 +1,6 @@
 -- `mapping::seat` meets its contract.
 -- Assumes nothing.
-use Rattle.mapping.specs.Evaluation.{seatedBy}
+use Rattle.mapping.specs.inner.Evaluation.{seatedBy}
 use borrow.Author.Needs.{needs}
 use Rattle.mapping.proofs.seat.Statement.{statement}
 use Rattle.mapping.proofs.seat.Tie as tie

@@ -2,7 +2,7 @@
 -- Assumes nothing.
 use native.Mathlib.Omega.{arith}
 use Prim.Native.Nat.{_-_, _≤_}
-use Rattle.mapping.specs.Evaluation.{LeavesUpto}
+use Rattle.mapping.specs.inner.Evaluation.{LeavesUpto}
 use Rattle.mapping.proofs.Evaluating.{leaves-start, leaves-done}
 use borrow.Author.Needs.{needs}
 use Rattle.mapping.proofs.seat_leaves.Statement.{statement}

@@ -1,6 +1,6 @@
 -- `mapping::send` meets its contract.
 -- Assumes nothing.
-use Rattle.mapping.specs.Evaluation.{sentTo}
+use Rattle.mapping.specs.inner.Evaluation.{sentTo}
 use borrow.Author.Needs.{needs}
 use Rattle.mapping.proofs.send.Statement.{statement}
 use Rattle.mapping.proofs.send.Tie as tie

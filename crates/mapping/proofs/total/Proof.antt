@@ -3,7 +3,7 @@
 use mathlib.Core.Path.{refl}
 use native.Mathlib.Omega.{arith}
 use Rattle.mapping.proofs.Fields.{transfers-fit, losses-fit}
-use Rattle.mapping.specs.Evaluation.{totalOf}
+use Rattle.mapping.specs.inner.Evaluation.{totalOf}
 use Rattle.mapping.proofs.total.Statement.{statement}
 use Rattle.mapping.proofs.total.Tie as tie
 

@@ -5,7 +5,7 @@ use mathlib.Core.Path.{_≡_, refl}
 use native.Mathlib.Omega.{arith}
 use lib.ListN.{length}
 use Rattle.report.specs.Reports.{always, Extended}
-use Rattle.report.specs.Tables.{geneNumbers}
+use Rattle.report.specs.inner.Tables.{geneNumbers}
 use Rattle.report.proofs.Writing.{lines-start, lines-turn, lines-done, lines-room, lines-length, room-always}
 use borrow.Author.Needs.{needs}
 use Rattle.report.proofs.write_genes.Statement.{statement}

@@ -5,7 +5,7 @@ use mathlib.Core.Path.{_≡_, refl}
 use native.Mathlib.Omega.{arith}
 use lib.ListN.{length}
 use Rattle.report.specs.Reports.{Extended}
-use Rattle.report.specs.Tables.{reticulationIn, reticulationNumbers}
+use Rattle.report.specs.inner.Tables.{reticulationIn, reticulationNumbers}
 use Rattle.report.proofs.Writing.{lines-start, lines-done, lines-length, node-room, node-turn}
 use borrow.Author.Needs.{needs}
 use Rattle.report.proofs.write_reticulations.Statement.{statement}

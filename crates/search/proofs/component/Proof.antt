@@ -4,8 +4,8 @@
 use native.Mathlib.Omega.{arith}
 use mathlib.Core.Path.{_≡_, refl, _∙_}
 use Rattle.search.proofs.Turns.{few-reticulations, tried-is, tried-still, awaits, finishes}
-use Rattle.search.specs.Steps.{Reached}
-use Rattle.search.specs.Prepared.{networkOf, genesOf, Working}
+use Rattle.search.specs.inner.Steps.{Reached}
+use Rattle.search.specs.inner.Prepared.{networkOf, genesOf, Working}
 use Rattle.layout.specs.Headers.{costs}
 use Prim.Native.Nat.{_-_, _≤_}
 use Rattle.search.proofs.component.Statement.{statement}

@@ -3,8 +3,8 @@
 -- Assumes nothing.
 use native.Mathlib.Omega.{arith}
 use Rattle.search.proofs.Turns.{begins, ends}
-use Rattle.search.specs.Steps.{Reached}
-use Rattle.search.specs.Prepared.{networkOf, genesOf, Working}
+use Rattle.search.specs.inner.Steps.{Reached}
+use Rattle.search.specs.inner.Prepared.{networkOf, genesOf, Working}
 use Rattle.layout.specs.Headers.{costs}
 use Prim.Native.Nat.{_-_, _≤_}
 use mathlib.Core.Path.{_≡_, refl}

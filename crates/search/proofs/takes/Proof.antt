@@ -2,7 +2,7 @@
 -- Assumes nothing.
 use Rattle.finite.specs.Tests.{same, under}
 use Rattle.finite.proofs.Tests.{is-same, not-same}
-use Rattle.search.specs.Steps.{takes}
+use Rattle.search.specs.inner.Steps.{takes}
 use Rattle.search.proofs.takes.Statement.{statement}
 use Rattle.search.proofs.takes.Tie as tie
 

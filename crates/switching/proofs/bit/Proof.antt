@@ -2,7 +2,7 @@
 -- Assumes nothing.
 use Prim.Native.Nat.{_-_, _/_, _^_}
 use lib.Bits.{and-mask}
-use Rattle.switching.specs.Settings.{bitOf}
+use Rattle.switching.specs.inner.Settings.{bitOf}
 use borrow.Author.Needs.{needs}
 use Rattle.switching.proofs.bit.Statement.{statement}
 use Rattle.switching.proofs.bit.Tie as tie

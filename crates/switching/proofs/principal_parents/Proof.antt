@@ -4,7 +4,7 @@ use Prim.Native.Nat.{_-_, _≤_}
 use mathlib.Core.Path.{_≡_}
 use Rattle.tables.specs.Columns.{column}
 use Rattle.layout.specs.Lines.{principal}
-use Rattle.layout.specs.Tree.{upColumn}
+use Rattle.layout.specs.inner.Tree.{upColumn}
 use Rattle.tables.proofs.Columns.{column-none, column-more, column-end}
 use Rattle.switching.proofs.Starting.{principal-low}
 use borrow.Author.Needs.{needs}

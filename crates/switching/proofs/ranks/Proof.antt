@@ -3,8 +3,8 @@
 use Prim.Native.Nat.{_-_, _≤_}
 use mathlib.Core.Path.{_≡_}
 use Rattle.tables.specs.Columns.{column}
-use Rattle.layout.specs.Parts.{rank}
-use Rattle.layout.specs.Tree.{rankColumn}
+use Rattle.layout.specs.inner.Parts.{rank}
+use Rattle.layout.specs.inner.Tree.{rankColumn}
 use Rattle.tables.proofs.Columns.{column-none, column-more, column-end}
 use borrow.Author.Needs.{needs}
 use Rattle.switching.proofs.ranks.Statement.{statement}

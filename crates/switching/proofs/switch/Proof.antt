@@ -5,7 +5,7 @@ use Rattle.tables.specs.Columns.{entry}
 use Rattle.topology.specs.Lines.{network}
 use Rattle.layout.specs.Lines.{nodesIn}
 use Rattle.optimum.specs.Optimum.{assembled}
-use Rattle.switching.specs.Turning.{TurnedTo}
+use Rattle.switching.specs.inner.Turning.{TurnedTo}
 use Rattle.switching.proofs.Settings.{turned-start, turned-end}
 use borrow.Author.Needs.{needs}
 use Rattle.switching.proofs.switch.Statement.{statement}

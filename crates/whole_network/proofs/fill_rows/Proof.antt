@@ -2,7 +2,7 @@
 -- written. The measure is g.
 -- Assumes nothing.
 use Prim.Native.Nat.{_≤_}
-use Rattle.whole_network.specs.Stages.{RowsIn, KeptIn}
+use Rattle.whole_network.specs.inner.Stages.{RowsIn, KeptIn}
 use Rattle.histories.proofs.Filling.{kept-none, kept-on}
 use Rattle.whole_network.proofs.Turns.{filling-on, rows-begun, rows-done}
 use native.Mathlib.Omega.{arith}

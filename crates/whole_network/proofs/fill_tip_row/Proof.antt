@@ -2,7 +2,7 @@
 -- table is written. The measure is i.
 -- Assumes nothing.
 use Prim.Native.Nat.{_≤_}
-use Rattle.whole_network.specs.Stages.{PartlyIn, KeptIn}
+use Rattle.whole_network.specs.inner.Stages.{PartlyIn, KeptIn}
 use Rattle.histories.proofs.Filling.{kept-none, kept-on}
 use Rattle.whole_network.proofs.Turns.{filling-on, row-begun, row-done}
 use native.Mathlib.Omega.{arith}

@@ -3,7 +3,7 @@
 use Prim.Native.Nat.{_-_, _≤_}
 use Rattle.topology.specs.Lines.{network}
 use Rattle.layout.specs.Lines.{nodesIn}
-use Rattle.components.specs.Ways.{MarkedWays}
+use Rattle.components.specs.inner.Ways.{MarkedWays}
 use Rattle.components.proofs.Ways.{ways-none, ways-end}
 use borrow.Author.Needs.{needs}
 use Rattle.components.proofs.climbs.non_tops.Statement.{statement}

@@ -8,7 +8,7 @@ use Rattle.finite.specs.Tables.{zeros}
 use Rattle.tables.specs.Columns.{column}
 use Rattle.tables.proofs.Columns.{column-none, column-more, column-end}
 use Rattle.topology.specs.Components.{component}
-use Rattle.layout.specs.Parts.{topColumn}
+use Rattle.layout.specs.inner.Parts.{topColumn}
 use borrow.Author.Needs.{needs}
 use Rattle.components.proofs.climbs.tops.Statement.{statement}
 use Rattle.components.proofs.climbs.tops.Tie as tie

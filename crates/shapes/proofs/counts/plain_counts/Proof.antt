@@ -6,8 +6,8 @@ use Rattle.tables.specs.Columns.{Kept}
 use Rattle.tables.proofs.Columns.{kept-none}
 use Rattle.tables.proofs.Counts.{Counted, counted-start, counted-turn, counted-few, counted-done, kept-raised}
 use Rattle.layout.specs.Lines.{nodesIn}
-use Rattle.shapes.specs.Counts.{plainsColumn}
-use Rattle.shapes.specs.ShortForms.{plainParentAt}
+use Rattle.shapes.specs.inner.Counts.{plainsColumn}
+use Rattle.shapes.specs.inner.ShortForms.{plainParentAt}
 use Rattle.shapes.proofs.AsRead.{plain-read}
 use borrow.Author.Needs.{needs}
 use native.Mathlib.Omega.{arith}

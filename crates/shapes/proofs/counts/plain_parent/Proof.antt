@@ -1,7 +1,7 @@
 -- A node with a secondary parent has no plain one. Each return is one case of the definition.
 -- Assumes nothing.
 use Rattle.finite.proofs.Tests.{pick-yes, pick-no, told-same, told-other}
-use Rattle.shapes.specs.ShortForms.{plainParent}
+use Rattle.shapes.specs.inner.ShortForms.{plainParent}
 use borrow.Author.Needs.{needs}
 use Rattle.shapes.proofs.counts.plain_parent.Statement.{statement}
 use Rattle.shapes.proofs.counts.plain_parent.Tie as tie

@@ -6,7 +6,7 @@ use mathlib.Core.Bool.{false}
 use Rattle.finite.specs.Range.{any}
 use Rattle.finite.proofs.Every.{some-stop, some-done, some-loop}
 use Rattle.layout.specs.Lines.{nodesIn}
-use Rattle.shapes.specs.ShortForms.{wrongSpeciesAt}
+use Rattle.shapes.specs.inner.ShortForms.{wrongSpeciesAt}
 use Rattle.shapes.proofs.ShortForms.{wrong-iff}
 use borrow.Author.Needs.{needs}
 use Rattle.shapes.proofs.refusals.nine.Statement.{statement}

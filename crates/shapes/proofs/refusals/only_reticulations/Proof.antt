@@ -4,7 +4,7 @@ use mathlib.Core.Path.{sym}
 use borrow.Author.Needs.{needs}
 use Rattle.finite.specs.Tests.{same}
 use Rattle.finite.proofs.Tests.{test-laws, told-laws}
-use Rattle.shapes.specs.ShortForms.{onlyReticulations}
+use Rattle.shapes.specs.inner.ShortForms.{onlyReticulations}
 use Rattle.finite.proofs.Tests.{rest-laws}
 use Rattle.shapes.proofs.refusals.only_reticulations.Statement.{statement}
 use Rattle.shapes.proofs.refusals.only_reticulations.Tie as tie

@@ -5,7 +5,7 @@ use mathlib.Core.Path.{_≡_}
 use mathlib.Core.Bool.{false}
 use Rattle.finite.specs.Range.{any}
 use Rattle.finite.proofs.Every.{some-start, some-turn, some-stop, some-done}
-use Rattle.shapes.specs.Counts.{onlyReticulationsIn}
+use Rattle.shapes.specs.inner.Counts.{onlyReticulationsIn}
 use Rattle.shapes.proofs.AsRead.{only-told}
 use borrow.Author.Needs.{needs}
 use Rattle.shapes.proofs.refusals.ten.Statement.{statement}

@@ -1,0 +1,4 @@
+pub mod Grades
+pub mod Rows
+pub mod Accepted
+pub mod Promise

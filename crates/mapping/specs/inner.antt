@@ -1,0 +1,3 @@
+pub mod Climbs
+pub mod Pairs
+pub mod Evaluation
