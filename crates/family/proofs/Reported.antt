@@ -103,8 +103,8 @@ module _ (X : Contents) (admitted : Admitted (X .nodes) (X .genes) (X .costs)) w
   unfolding networkIn geneTreeIn familyIn reported totalsIn
   is-reported = record {
     genes = genes-of L K C admitted;
-    mapped = mapped (sound L K C admitted) (rooted L K C admitted) (seated L K C admitted) (chosen N G C);
-    added = added N G C (chosen N G C);
+    mapped = mapped (sound L K C admitted) (rooted L K C admitted) (seated L K C admitted);
+    added = added N G C;
     pieces = pieces N (sound L K C admitted);
     tried = trials-summed N (sound L K C admitted);
     with-any = with-any N (sound L K C admitted);

@@ -7,7 +7,7 @@ use lib.ListN.{getD}
 use Rattle.finite.specs.Tests.{same, tally}
 use Rattle.finite.specs.Range.{count}
 use Rattle.topology.specs.Networks.{Node, Reticulation, isReticulation, reticulations}
-use Rattle.topology.specs.Switchings.{onSecondary, parent}
+use Rattle.topology.specs.Switchings.{Switching, onSecondary, parent}
 use Rattle.topology.specs.Lines.{Gene}
 use Rattle.topology.specs.Components.{component, reticulationCount, componentCount}
 use Rattle.displayed.specs.Model.{place, event, transfers, losses, duplicationCount, transferCount, lossCount, lcaCost}
@@ -59,12 +59,12 @@ pub record SixColumns (X : Contents) : Type 0 where
 pub record Reported (X : Contents) : Type 0 where
   -- the gene tree is that of the gene lines
   pub genes : GenesOf (X .nodes) (X .genes) (geneTreeIn X)
-  -- demand 2: the genes' lines are the place, event, transfers and losses that 01 words ("Settings and placement"), under the setting reported
-  pub mapped : Mapped (networkIn X) (reported X) (geneTreeIn X) (place (networkIn X) (geneTreeIn X) (reported X)) (event (networkIn X) (geneTreeIn X) (reported X))
-      (transfers (networkIn X) (geneTreeIn X) (reported X)) (losses (networkIn X) (geneTreeIn X) (reported X))
-  -- the first line's numbers are sums over the genes' lines, and the cost is theirs
-  pub added : Added (geneTreeIn X) (X .costs) (event (networkIn X) (geneTreeIn X) (reported X)) (transfers (networkIn X) (geneTreeIn X) (reported X)) (losses (networkIn X) (geneTreeIn X) (reported X))
-      (totalsIn X .duplications) (totalsIn X .transfers) (totalsIn X .losses) (totalsIn X .cost)
+  -- demand 2: under the setting reported, and under every other that it is compared with, the numbers of the genes' lines are the place, event, transfers
+  -- and losses that 01 words ("Settings and placement"); the first line's are sums over the genes, and the cost is theirs
+  pub mapped : (σ : Switching) → Mapped (networkIn X) σ (geneTreeIn X) (place (networkIn X) (geneTreeIn X) σ) (event (networkIn X) (geneTreeIn X) σ)
+      (transfers (networkIn X) (geneTreeIn X) σ) (losses (networkIn X) (geneTreeIn X) σ)
+  pub added : (σ : Switching) → Added (geneTreeIn X) (X .costs) (event (networkIn X) (geneTreeIn X) σ) (transfers (networkIn X) (geneTreeIn X) σ) (losses (networkIn X) (geneTreeIn X) σ)
+      (duplicationCount (networkIn X) (geneTreeIn X) σ) (transferCount (networkIn X) (geneTreeIn X) σ) (lossCount (networkIn X) (geneTreeIn X) σ) (lcaCost (networkIn X) (geneTreeIn X) (X .costs) σ)
   -- the reticulations' lines name the pieces left when all cut arcs are taken away, and the trials and the count of components go over these
   pub pieces : Pieces (networkIn X) (component (networkIn X)) (reticulationCount (networkIn X))
   pub tried : SumOfTrials (networkIn X) (totalsIn X .trials)
