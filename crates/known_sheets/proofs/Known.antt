@@ -6,11 +6,11 @@ use mathlib.Core.List.{List·Memᴰ}
 use Rattle.histories.specs.Histories.{open-Histories}
 use Rattle.histories.specs.Words.{open-Words}
 use Rattle.histories.specs.Families.{open-Families}
-use Rattle.known_sheets.specs.Rows.{Row, Known}
+use Rattle.sheet_rows.specs.Rows.{Row, Known}
 use Rattle.known_sheets.specs.Sheets.{knownSheets}
-use Rattle.known_sheets.proofs.Opened.{open-Finite, open-Sheet, open-Topology, open-Curators, open-Mapping, open-Score}
-use Rattle.known_sheets.proofs.Frozen.{open-Frozen}
-use Rattle.known_sheets.proofs.Rows.{allPass, all-known, open-Rows}
+use Rattle.sheet_rows.proofs.Opened.{open-Finite, open-Sheet, open-Topology, open-Curators, open-Mapping, open-Score}
+use Rattle.sheet_rows.proofs.Frozen.{open-Frozen}
+use Rattle.sheet_rows.proofs.Rows.{allPass, all-known, open-Rows}
 
 all-pass : allPass knownSheets ≡ true
 unfolding open-Finite open-Sheet open-Topology open-Curators open-Mapping open-Score open-Histories open-Words open-Families open-Frozen open-Rows

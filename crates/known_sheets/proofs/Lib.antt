@@ -1,4 +1,1 @@
-pub mod Opened
-pub mod Frozen
-pub mod Rows
 pub mod Known

@@ -5,7 +5,7 @@
 use mathlib.Core.List.{List, [], _∷_, _++_}
 use Prim.Native.Nat.{ℕ}
 use Rattle.score.specs.declared.Answer.the-variants.{Report, Refused}
-use Rattle.known_sheets.specs.Rows.{ln, Row}
+use Rattle.sheet_rows.specs.Rows.{ln, Row}
 
 -- the word that stands for no history
 abbrev pub ∞ : ℕ

@@ -19,9 +19,9 @@ use Rattle.family.specs.Reports.{reportIn}
 use Rattle.score.specs.Contents.{contentsOf}
 use Rattle.score.specs.Refusals.{refusal}
 use Rattle.score.specs.Outcome.{answerBy, resultBy, scratchBy}
-use Rattle.known_sheets.specs.Rows.{Row, Known}
+use Rattle.sheet_rows.specs.Rows.{Row, Known}
 use Rattle.score.proofs.Promises.{no-others}
-use Rattle.known_sheets.proofs.Frozen.{frozenContents, contents-frozen, refusalWith, refusal-is, frozenFamily, family-frozen, frozenReport, report-frozen}
+use Rattle.sheet_rows.proofs.Frozen.{frozenContents, contents-frozen, refusalWith, refusal-is, frozenFamily, family-frozen, frozenReport, report-frozen}
 
 -- what a sheet with the contents X, of which refusal k is the first that applies, answers and leaves, by the row
 pub record Agrees (k : ℕ) (X : Contents) (r : Row) (a : Answer) : Type 0 where
