@@ -1,16 +1,15 @@
 -- The gene tree of an admitted sheet is the one of its gene lines: a rooted tree has each gene below its parent once, the two children of a gene are found
 -- by rising number, and what bears a leaf gene's species is a leaf.
 -- Assumes nothing.
-use mathlib.Core.Path.{_≡_, refl, sym, _∙_}
-use mathlib.Core.Logic.{_≢_, _↔_, _⊎_, inl, inr, ⊎-elim}
-use Prim.Native.Nat.{ℕ, _≤_, _<_}
+use mathlib.Core.Path.{_≡_, sym, _∙_}
+use mathlib.Core.Logic.{_≢_, _⊎_, inl, inr, ⊎-elim}
+use Prim.Native.Nat.{ℕ, _≤_}
 use native.Mathlib.Omega.{arith}
 use Rattle.finite.specs.Range.{children}
 use Rattle.finite.specs.Tests.{same}
-use Rattle.finite.proofs.Cases.{clash}
 use Rattle.finite.proofs.Tests.{is-same}
 use Rattle.finite.proofs.Count.{count-some}
-use Rattle.topology.specs.Networks.{Network, Node, NoArcs}
+use Rattle.topology.specs.Networks.{Network, NoArcs}
 use Rattle.topology.specs.Lines.{NodeLines, GeneLines, Gene, network}
 use Rattle.reconciliation.specs.GeneTrees.{GeneTree}
 use Rattle.reconciliation.specs.Costs.{Costs}

@@ -58,9 +58,6 @@ spelled-worth bs n h e = rw (spelled-columns bs n e) (read-back n h)
 pub one-number : (bs : List ℕ) (m n : ℕ) → m < 1000000 → n < 1000000 → spells bs m ≡ true → spells bs n ≡ true → m ≡ n
 one-number bs m n hm hn em en = sym (spelled-worth bs m hm em) ∙ spelled-worth bs n hn en
 
-pub one-spelling : (bs cs : List ℕ) (n : ℕ) → spells bs n ≡ true → spells cs n ≡ true → bs ≡ cs
-one-spelling bs cs n eb ec = spelled-columns bs n eb ∙ sym (spelled-columns cs n ec)
-
 -- what six bytes are worth is below 1,000,000, whatever they are
 pub digit-small : (b : ℕ) → digitOf b ≤ 9
 digit-small b = byBool (ltb b 48) (λ l. rw l (lit≤ tt)) (λ l. rw l (byBool (ltb 57 b) (λ g. rw g (lit≤ tt)) (λ g. rw g (omega (arith, ltb-false 57 b g)))))

@@ -16,7 +16,7 @@ use Rattle.topology.specs.Networks.{Network, Node, Sound, Reticulation}
 use Rattle.topology.specs.Components.{Linked, component, memberOf, reticulationCount}
 use Rattle.topology.specs.Lines.{NodeLines, network}
 use Rattle.topology.proofs.Above.{reticulation-node}
-use Rattle.topology.proofs.Components.{member-is, is-member, component-node}
+use Rattle.topology.proofs.Components.{member-is, component-node}
 use Rattle.topology.proofs.CutArcs.{member-iff}
 use Rattle.components.specs.Refusals.{crowdedAt, refusal11, Refusal11, componentRefusals}
 

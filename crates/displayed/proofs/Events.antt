@@ -85,14 +85,6 @@ module _ (T : Displayed) (G : GeneTree) (g : ℕ) where
       (λ t. let n : ¬ ChildHere = λ h. clash (is-duplication d h) t in
       byBool (sends T (place T G g)) (λ q. f₃ d n (sends-is T (place T G g) q)) (λ q. f₁ d n (λ r. clash (is-sends T (place T G g) r) q))))
 
-  -- so each number says exactly what 01 says
-  pub event-0-iff : (event T G g ≡ 0) ↔ (G .left g ≡ 0)
-  event-0-iff = (
-    (λ e. byEvent (λ z. z) (λ d h. absurd (omega (arith, event-duplication d h))) (λ d n r. absurd (omega (arith, event-transfer d n r)))
-        (λ d n m. absurd (omega (arith, event-speciation d n m)))),
-    event-leaf,
-  )
-
   pub event-2-iff : (event T G g ≡ 2) ↔ ((G .left g ≢ 0) × ChildHere)
   event-2-iff = (
     (λ e. byEvent (λ z. absurd (omega (arith, event-leaf z))) (λ d h. (d, h)) (λ d n r. absurd (omega (arith, event-transfer d n r)))

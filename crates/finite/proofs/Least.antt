@@ -1,6 +1,6 @@
 -- The least index of a least value: its value is least, and every lower index has a greater one.
 -- Assumes nothing.
-use mathlib.Core.Path.{_≡_, refl, sym, _∙_}
+use mathlib.Core.Path.{_≡_, refl}
 use Prim.Native.Nat.{ℕ, zero, suc, _≤_, _<_}
 use native.Mathlib.Omega.{arith}
 use Rattle.finite.specs.Least.{firstLeast}
@@ -44,9 +44,3 @@ pub least-only : (f : ℕ → ℕ) (k j : ℕ) → j < k → ((i : ℕ) → i < 
 least-only f k j l least before = byLess (firstLeast f k) j
     (λ t. absurd (omega (arith, before (firstLeast f k) t, least-is f k j l)))
     (λ t. byLess j (firstLeast f k) (λ u. absurd (omega (arith, least-first f k j u, least (firstLeast f k) (least-in f k (omega arith))))) (λ u. omega arith))
-
-pub least-same : (f g : ℕ → ℕ) (k : ℕ) → ((i : ℕ) → i < k → f i ≡ g i) → firstLeast f k ≡ firstLeast g k
-least-same f g zero e = least-none f ∙ sym (least-none g)
-least-same f g (suc k) e = least-only f (suc k) (firstLeast g (suc k)) (least-in g (suc k) (omega arith))
-    (λ i u. omega (arith, e i u, e (firstLeast g (suc k)) (least-in g (suc k) (omega arith)), least-is g (suc k) i u))
-    (λ i u. omega (arith, e i (omega (arith, least-in g (suc k) (omega arith))), e (firstLeast g (suc k)) (least-in g (suc k) (omega arith)), least-first g (suc k) i u))

@@ -6,7 +6,7 @@ ghost use mathlib.Core.List.{[]};
 ghost use Prim.Native.Nat.{_+_, _≤_};
 ghost use lib.ListN.{length};
 ghost use Rattle.columns.specs.Writing.{written, put};
-ghost use Rattle.text_lines.specs.Lines.{fieldCount, lineOf, lineLength, lineAt, endAt, malformed, Small, LineRead};
+ghost use Rattle.text_lines.specs.Lines.{fieldCount, lineOf, lineLength, endAt, malformed, Small, LineRead};
 
 // How many fields a line has: the one place in the code that says so.
 pub const FIELDS: usize = 5;

@@ -11,7 +11,7 @@ use Rattle.finite.proofs.Tests.{is-same, not-same}
 use Rattle.topology.specs.Climbing.{Falls}
 use Rattle.topology.specs.Networks.{Network, Node, Sound, Reticulation, isReticulation}
 use Rattle.topology.specs.Switchings.{Switching, allPrincipal, onSecondary, parent, above, Above, here, step, lca}
-use Rattle.topology.proofs.Climbing.{climb-ind, over-self, over-up, over-not, over-zero, over-trans, over-low, over-anti, meet-spec}
+use Rattle.topology.proofs.Climbing.{climb-ind, over-self, over-up, over-not, over-zero, over-low, over-anti, meet-spec}
 
 module _ (N : Network) where
   open Network N using (size, principal, secondary, rank)
@@ -99,10 +99,6 @@ module _ (N : Network) (ok : Sound N) where
   pub above-zero : (σ : Switching) (v : ℕ) → v ≢ 0 → above N σ v 0 ≡ false
   unfolding above
   above-zero σ = over-zero (N .rank) (parent N σ) (falls σ)
-
-  pub above-trans : (σ : Switching) (u v x : ℕ) → above N σ u v ≡ true → above N σ v x ≡ true → above N σ u x ≡ true
-  unfolding above
-  above-trans σ = over-trans (N .rank) (parent N σ) (falls σ)
 
   pub above-low : (σ : Switching) (v x : ℕ) → above N σ v x ≡ true → v ≢ x → N .rank v < N .rank x
   unfolding above
