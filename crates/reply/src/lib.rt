@@ -44,12 +44,7 @@ fn write_refusal(out: &mut [u8], k: u32) -> usize
     ensures { λ r. ⌜ (now (out .exit) ≡ written (now (out .entry)) (refusedLine k)) × (r ≡ 14) ⌝ }
 {
     let line = refused_line(k);
-    let mut i = 0;
-    while i < LINE {
-        out[i] = line[i];
-        i += 1;
-    }
-    LINE
+    bytes::copy(&line, out)
 }
 
 // Writes the report of the sheet that is read into a text, or the line of its refusal, and returns how many bytes that is.
