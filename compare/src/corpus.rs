@@ -1,6 +1,9 @@
 //! The sheets that the test program `score_test` is run on, and what it has to write: the reference implementation's reports, words and
 //! refusals. A sheet that is small enough is first scored by the enumeration as well, and a sheet worked out by hand is held to that.
 
+use std::path::Path;
+use std::{fs, io};
+
 use crate::enumeration::{self, Settled};
 use crate::families::{self, Growth};
 use crate::random::Random;
@@ -21,21 +24,22 @@ const SHOWN: usize = 40;
 const ACROSS: usize = 10;
 const UNTOUCHED: u32 = u32::MAX - 1;
 
-fn random_sheets(seed: u64) -> Vec<Vec<u8>> {
+/// Sheets from the generators, with their names.
+fn random_sheets(seed: u64) -> Vec<(String, Vec<u8>)> {
     let random = &mut Random::new(seed);
-    let mut sheets = vec![Vec::new(), vec![b'x']];
-    for _ in 0..SMALL {
-        sheets.push(families::any(random, 9, 8).text());
+    let mut sheets = vec![("nothing".to_string(), Vec::new()), ("one-byte".to_string(), vec![b'x'])];
+    for i in 1..=SMALL {
+        sheets.push((format!("small-{i:02}"), families::any(random, 9, 8).text()));
     }
     for transfers in [6, 8] {
-        sheets.push(families::dense(random, transfers, 6).text());
+        sheets.push((format!("dense-{transfers}"), families::dense(random, transfers, 6).text()));
     }
-    for growth in [Growth::Deep, Growth::Wide, Growth::Anywhere] {
-        sheets.push(families::largest(random, 31, growth).text());
+    for (name, growth) in [("deep", Growth::Deep), ("wide", Growth::Wide), ("anywhere", Growth::Anywhere)] {
+        sheets.push((format!("largest-{name}"), families::largest(random, 31, growth).text()));
     }
     for number in 3..=13 {
-        for _ in 0..DAMAGED {
-            sheets.push(damage::aimed(random, number));
+        for i in 1..=DAMAGED {
+            sheets.push((format!("damaged-{number:02}-{i}"), damage::aimed(random, number)));
         }
     }
     sheets
@@ -103,20 +107,25 @@ fn confirmed(worked: &worked::Worked) -> Outcome {
     outcome
 }
 
-/// The input and the expected output: a sheet stands behind its length in two bytes.
-pub fn files(seed: u64) -> (Vec<u8>, Vec<u8>) {
+/// Renews the files of the test program: the sheets in its data/, their names in its arguments, and what it has to write.
+pub fn write(seed: u64, folder: &Path) -> io::Result<()> {
     let worked = worked::sheets();
-    let by_hand = worked.iter().map(|worked| (worked.sheet.clone(), confirmed(worked)));
-    let at_random = random_sheets(seed).into_iter().map(|sheet| {
+    let by_hand = worked.iter().map(|worked| (worked.name.clone(), worked.sheet.clone(), confirmed(worked)));
+    let at_random = random_sheets(seed).into_iter().map(|(name, sheet)| {
         let outcome = Outcome::of(&sheet);
-        (sheet, outcome)
+        (name, sheet, outcome)
     });
-    let (mut input, mut output) = (Vec::new(), Vec::new());
-    for (sheet, outcome) in by_hand.chain(at_random) {
-        let length = u16::try_from(sheet.len()).expect("a length of two bytes");
-        input.extend(length.to_be_bytes());
-        input.extend(&sheet);
-        output.extend(outcome.lines().bytes());
+    let data = folder.join("data");
+    if data.exists() {
+        fs::remove_dir_all(&data)?;
     }
-    (input, output)
+    fs::create_dir(&data)?;
+    let (mut names, mut output) = (String::new(), String::new());
+    for (name, sheet, outcome) in by_hand.chain(at_random) {
+        fs::write(data.join(format!("{name}.sheet")), sheet)?;
+        names += &format!("{name}\n");
+        output += &format!("{name}\n{}", outcome.lines());
+    }
+    fs::write(folder.join("args"), names)?;
+    fs::write(folder.join("stdout"), output)
 }

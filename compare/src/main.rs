@@ -1,5 +1,6 @@
 //! The differential run and the benchmarks; `compare/run` builds and calls it.
 
+use std::path::Path;
 use std::process::ExitCode;
 
 use compare::differential::{self, Bounds};
@@ -15,7 +16,7 @@ compare --random-test FILE
   --seconds N     the most time for the differential run (240)
   --no-benchmark  the differential run alone
   --write FILE    write the benchmarks as a page to FILE, with DATE
-  --corpus FOLDER write the input and the expected output of the test program score_test, and nothing else
+  --corpus FOLDER write the sheets and the expected output of the test program score_test, and nothing else
   --random-test FILE  write the expected output of the test program random_test, and nothing else";
 
 struct Options {
@@ -60,10 +61,7 @@ fn main() -> ExitCode {
     };
     let Bounds { seed, percent, seconds } = options.bounds;
     if let Some(folder) = options.corpus {
-        let (input, output) = corpus::files(seed);
-        let written = std::fs::write(format!("{folder}/stdin"), input)
-            .and_then(|()| std::fs::write(format!("{folder}/stdout"), output));
-        if let Err(error) = written {
+        if let Err(error) = corpus::write(seed, Path::new(&folder)) {
             eprintln!("{folder}: {error}");
             return ExitCode::FAILURE;
         }

@@ -9,6 +9,8 @@ pub type Line = [u32; 5];
 
 /// A sheet and what was worked out of its outcome.
 pub struct Worked {
+    /// The name of its file.
+    pub name: String,
     pub sheet: Vec<u8>,
     /// The first lines of the report, or the refusal's number alone. A field that was not worked out is `*`.
     pub lines: Vec<&'static str>,
@@ -19,8 +21,8 @@ pub struct Worked {
 }
 
 impl Worked {
-    fn new(sheet: Vec<u8>, lines: &[&'static str]) -> Worked {
-        Worked { sheet, lines: lines.to_vec(), table: None, cheapest: None }
+    fn new(name: &str, sheet: Vec<u8>, lines: &[&'static str]) -> Worked {
+        Worked { name: name.to_string(), sheet, lines: lines.to_vec(), table: None, cheapest: None }
     }
 
     fn table(self, words: &[u32]) -> Worked {
@@ -104,9 +106,10 @@ fn known() -> Vec<Worked> {
         // Secondary: gene 3 at 4, from which a secondary arc leaves: a transfer; gene 1 at 1, a speciation.
         // Gene 2 passes node 2, one of whose arcs is off: no loss. Gene 4 goes along the secondary arc: one
         // transfer.
-        Worked::new(text([2, 3, 1], &K_NETWORK, &K_GENES), &K_REPORT).table(&K_TABLE.concat()),
+        Worked::new("k", text([2, 3, 1], &K_NETWORK, &K_GENES), &K_REPORT).table(&K_TABLE.concat()),
         // The same placement, cheaper than the principal one by 1.
         Worked::new(
+            "k-transfer-4",
             text([2, 4, 1], &K_NETWORK, &K_GENES),
             &[&["4 0 1 0 2", "5 7 5 1 1"], &K_REPORT[2..]].concat(),
         ),
@@ -114,6 +117,7 @@ fn known() -> Vec<Worked> {
         // with one child elsewhere. Gene 2 passes node 2 and leaves the duplication: two losses. Gene 4
         // passes 3 and 2: one, at 2. Gene 5 passes 4, one of whose arcs is off: none.
         Worked::new(
+            "k-transfer-5",
             text([2, 5, 1], &K_NETWORK, &K_GENES),
             &[
                 "5 1 0 3 2",
@@ -129,12 +133,17 @@ fn known() -> Vec<Worked> {
         .cheapest(2),
         // Principal: gene 2 at 1 and gene 1 at 1: a duplication. Gene 4 passes 2: one loss; gene 5 passes 2
         // and leaves the duplication: two.
-        Worked::new(text([2, 3, 1], &K_NETWORK, &PAIR_FIRST), &pair_first("4 7 5 1 1")),
-        Worked::new(text([2, 2, 1], &K_NETWORK, &PAIR_FIRST), &pair_first("3 7 5 1 1")),
+        Worked::new("pair-first", text([2, 3, 1], &K_NETWORK, &PAIR_FIRST), &pair_first("4 7 5 1 1")),
+        Worked::new(
+            "pair-first-transfer-2",
+            text([2, 2, 1], &K_NETWORK, &PAIR_FIRST),
+            &pair_first("3 7 5 1 1"),
+        ),
         // Secondary: gene 2 at 4, a transfer; gene 1 at 4 too: it fits both clauses and is a duplication.
         // Genes 4 and 5 take the secondary arc, gene 5 with the loss at the duplication: 2 + 2 × 1 + 2,
         // against 2 + 3 × 2. With all arcs on, genes 5 and 4 are sent along it from 4: 1 + 1.
         Worked::new(
+            "pair-first-secondary",
             text([2, 1, 2], &K_NETWORK, &PAIR_FIRST),
             &[
                 "6 1 2 1 2",
@@ -150,14 +159,20 @@ fn known() -> Vec<Worked> {
         .cheapest(1),
         // One gene costs nothing under either setting.
         Worked::new(
+            "one-gene",
             text([2, 3, 1], &K_NETWORK, &[[1, 0, 2, 0, 0]]),
             &["0 0 0 0 2", "0 7 1 1 1", "3 2 0 1 1", "1 6 0 0 0"],
         )
         .cheapest(2),
         // One node, a leaf that is also the root: nothing to try.
-        Worked::new(text([2, 3, 1], &leaf, &[[1, 0, 5, 0, 0]]), &["0 0 0 0 0", "0 1 1 0 0", "1 1 0 0 0"]),
+        Worked::new(
+            "one-node-one-gene",
+            text([2, 3, 1], &leaf, &[[1, 0, 5, 0, 0]]),
+            &["0 0 0 0 0", "0 1 1 0 0", "1 1 0 0 0"],
+        ),
         // A duplication at a leaf, both children there: no loss.
         Worked::new(
+            "one-node-three-genes",
             text([2, 3, 1], &leaf, &three),
             &["2 1 0 0 0", "2 1 3 0 0", "1 1 2 0 0", "2 1 0 0 0", "3 1 0 0 0"],
         ),
@@ -175,49 +190,55 @@ const SECONDARY: usize = 2;
 const STAMP: usize = 3;
 const SPECIES: usize = 4;
 
-/// K with one number of one node changed: node, field, number, refusal.
-const K_BUT: [(usize, usize, u32, &str); 12] = [
+/// K with one number of one node changed: name, node, field, number, refusal.
+const K_BUT: [(&str, usize, usize, u32, &str); 12] = [
     // Leaf 7 below node 8, which is none.
-    (7, PRINCIPAL, 8, "6"),
-    (3, SECONDARY, 8, "6"),
+    ("refused-6-principal-above-n", 7, PRINCIPAL, 8, "6"),
+    ("refused-6-secondary-above-n", 3, SECONDARY, 8, "6"),
     // Its own parent.
-    (2, PRINCIPAL, 2, "6"),
+    ("refused-6-own-parent", 2, PRINCIPAL, 2, "6"),
     // A second root.
-    (4, PRINCIPAL, 0, "6"),
+    ("refused-6-second-root", 4, PRINCIPAL, 0, "6"),
     // No root: node 1 is below leaf 7.
-    (1, PRINCIPAL, 7, "6"),
+    ("refused-6-no-root", 1, PRINCIPAL, 7, "6"),
     // The root with a secondary parent.
-    (1, SECONDARY, 4, "6"),
+    ("refused-6-root-with-secondary", 1, SECONDARY, 4, "6"),
     // The secondary parent of node 3 earlier than node 3 (case 9).
-    (4, STAMP, 1, "7"),
+    ("refused-7-secondary-earlier", 4, STAMP, 1, "7"),
     // Node 2 stamped as the root, its principal parent.
-    (2, STAMP, 0, "7"),
+    ("refused-7-principal-not-below", 2, STAMP, 0, "7"),
     // Node 4 as both parents of node 3: its stamp would have to be below 2 and to be 2.
-    (3, PRINCIPAL, 4, "7"),
+    ("refused-7-both-parents-one", 3, PRINCIPAL, 4, "7"),
     // A leaf without species, an inner node with one, two leaves alike.
-    (7, SPECIES, 0, "9"),
-    (2, SPECIES, 4, "9"),
-    (7, SPECIES, 1, "9"),
+    ("refused-9-leaf-without-species", 7, SPECIES, 0, "9"),
+    ("refused-9-inner-node-with-species", 2, SPECIES, 4, "9"),
+    ("refused-9-two-leaves-of-a-species", 7, SPECIES, 1, "9"),
 ];
 
 /// Networks that refusals 6 to 11 apply to.
 fn refused() -> Vec<Worked> {
-    let k_but = K_BUT.map(|(node, field, number, refusal)| {
+    let k_but = K_BUT.map(|(name, node, field, number, refusal)| {
         let mut network = K_NETWORK;
         network[node - 1][field] = number;
-        Worked::new(text([2, 3, 1], &network, &K_GENES), &[refusal])
+        Worked::new(name, text([2, 3, 1], &network, &K_GENES), &[refusal])
     });
-    let of = |network: &[Line], refusal| Worked::new(text([2, 3, 1], network, &ONE_GENE), &[refusal]);
+    let of =
+        |name, network: &[Line], refusal| Worked::new(name, text([2, 3, 1], network, &ONE_GENE), &[refusal]);
     let mut sheets = Vec::from(k_but);
     sheets.extend([
         // Nodes 2 and 3 each the secondary parent of the other, equal stamps: a circle that 6 and 7 do not
         // find. Node 2 has two parents and no principal arc out.
-        of(&[[1, 0, 0, 0, 0], [2, 1, 3, 5, 0], [3, 1, 2, 5, 0]], "8"),
+        of("refused-8-circle", &[[1, 0, 0, 0, 0], [2, 1, 3, 5, 0], [3, 1, 2, 5, 0]], "8"),
         // A root with one arc out, and one with three.
-        of(&[[1, 0, 0, 0, 0], [2, 1, 0, 1, 1]], "8"),
-        of(&[[1, 0, 0, 0, 0], [2, 1, 0, 1, 1], [3, 1, 0, 1, 2], [4, 1, 0, 1, 3]], "8"),
+        of("refused-8-one-arc-out", &[[1, 0, 0, 0, 0], [2, 1, 0, 1, 1]], "8"),
+        of(
+            "refused-8-three-arcs-out",
+            &[[1, 0, 0, 0, 0], [2, 1, 0, 1, 1], [3, 1, 0, 1, 2], [4, 1, 0, 1, 3]],
+            "8",
+        ),
         // Two transfers with nothing between: the only child of reticulation 3 is reticulation 5.
         of(
+            "refused-10-reticulation-below-reticulation",
             &[
                 [1, 0, 0, 0, 0],
                 [2, 1, 0, 1, 0],
@@ -230,7 +251,7 @@ fn refused() -> Vec<Worked> {
             "10",
         ),
         // One reticulation more than a component may hold; a component of eight is scored below.
-        of(&ladder(9), "11"),
+        of("refused-11-nine-reticulations", &ladder(9), "11"),
     ]);
     sheets
 }
@@ -295,6 +316,7 @@ fn searched() -> Vec<Worked> {
 fn one_species() -> Worked {
     let network = [[1, 0, 0, 0, 0], [2, 1, 0, 1, 0], [3, 1, 2, 1, 0], [4, 2, 0, 9, 1], [5, 3, 0, 9, 2]];
     Worked::new(
+        "one-species",
         text([9, 1, 1], &network, &genes(&[(0, 0), (1, 2), (1, 2)])),
         &["9 1 0 0 2", "2 5 3 1 1", "3 1 0 1 1", "1 5 2 0 0", "2 5 0 0 0", "3 5 0 0 0"],
     )
@@ -318,6 +340,7 @@ fn set_together() -> Worked {
         [11, 2, 9, 10, 0],
     ];
     Worked::new(
+        "set-together",
         text([11, 2, 3], &network, &genes(&[(0, 0), (1, 5), (1, 7)])),
         &["0 0 0 0 4", "* 11 3 2 1", "1 3 1 8 2", "11 2 0 8 2"],
     )
@@ -351,6 +374,7 @@ fn three_components() -> Worked {
     let genes =
         genes(&[(0, 0), (1, 0), (1, 0), (2, 3), (2, 0), (3, 5), (3, 3), (5, 0), (5, 5), (8, 3), (8, 7)]);
     Worked::new(
+        "three-components",
         text([2, 5, 1], &network, &genes),
         &["15 * * * 6", "* 19 11 3 3", "3 2 0 1 1", "9 8 0 7 1", "15 16 1 13 1"],
     )
@@ -362,6 +386,7 @@ fn component_of_eight() -> Worked {
     let genes =
         genes(&[(0, 0), (1, 0), (1, 1), (2, 0), (2, 4), (4, 0), (4, 0), (7, 7), (7, 9), (6, 2), (6, 3)]);
     Worked::new(
+        "component-of-eight",
         text([2, 3, 1], &ladder(8), &genes),
         &[
             "16 * * * 256",
@@ -386,6 +411,7 @@ fn component_of_eight() -> Worked {
 fn two_components() -> Worked {
     let genes = genes(&[(0, 0), (1, 0), (1, 0), (2, 5), (2, 6), (3, 11), (3, 12)]);
     Worked::new(
+        "two-components-of-five",
         text([2, 2, 1], &two_ladders(), &genes),
         &[
             "6 0 2 2 64",

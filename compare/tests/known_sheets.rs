@@ -1,5 +1,7 @@
 //! The known sheets of the rules and the others worked out by hand, and the limits around them.
 
+use std::fs;
+
 use compare::reference::sheet::Sheet;
 use compare::reference::{self, RESULT_BYTES, SCRATCH_WORDS};
 use compare::worked::{self, K_GENES, K_NETWORK};
@@ -46,6 +48,23 @@ fn sheets_worked_out_by_hand() {
         let outcome = answer(&worked.sheet).unwrap_or_else(|refusal| refusal.to_string());
         assert!(worked.fits(&outcome), "worked out: {:?}\nfound:\n{outcome}", worked.lines);
     }
+}
+
+/// Every sheet of sheets/ comes to the report beside it.
+#[test]
+fn sheets_and_their_reports() {
+    let mut compared = 0;
+    for entry in fs::read_dir("../sheets").expect("the folder of sheets") {
+        let path = entry.expect("a file").path();
+        if path.extension().is_some_and(|ending| ending == "sheet") {
+            let report = fs::read_to_string(path.with_extension("report")).expect("a report beside it");
+            let sheet = fs::read(&path).expect("a sheet");
+            let reply = answer(&sheet).unwrap_or_else(|refusal| format!("refused{refusal:6}\n"));
+            assert_eq!(reply, report, "{}", path.display());
+            compared += 1;
+        }
+    }
+    assert!(compared > 40, "only {compared} sheets");
 }
 
 #[test]

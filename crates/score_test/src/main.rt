@@ -1,17 +1,16 @@
-// Scores sheet after sheet from standard input, each behind its length in two bytes. Of each it writes the report and the first words of the scratch, or
-// the refusal's number in six columns and a line feed. What the sheets come to is from the independent implementation (compare/run --corpus), the smaller
-// ones checked there by enumerating all settings. First stand 31 worked out by hand, each with the reason that it is there (compare/src/worked.rs): known
-// sheets, networks for each refusal from 6 to 11, settings that tie, components of 8 and of 5. Then 113 from a generator: deep and wide networks, many
-// components, components of 8, n = m = 127, and damaged sheets for every refusal.
+// Scores each sheet of data/ that its arguments name. Of each it writes the name, and the report and the first words of the scratch, or the refusal's
+// number in six columns and a line feed. What the sheets come to is from the independent implementation (compare/run --corpus), the smaller ones checked
+// there by enumerating all settings. First stand 31 worked out by hand, each with the reason that it is there (compare/src/worked.rs): known sheets,
+// networks for each refusal from 6 to 11, settings that tie, components of 8 and of 5. Then 113 from a generator: deep and wide networks, many components,
+// components of 8, n = m = 127, and damaged sheets for every refusal.
 use score::Answer;
-ghost use Prim.Native.Nat.{_≤_, _<_};
-
-const STDIN: i32 = 0;
+use test_files::Got;
+ghost use Prim.Native.Nat.{_<_};
 
 const STDOUT: i32 = 1;
 
-// More sheets than the input has: a loop has to end.
-const MOST: u32 = 1000000;
+// The room for a sheet: a byte more than the longest has.
+const SHEET: usize = 7906;
 
 // How many words of the scratch are written: the 35 of sheet K's table, and five that it leaves as they were.
 const SHOWN: usize = 40;
@@ -20,12 +19,6 @@ const SHOWN: usize = 40;
 const UNTOUCHED: u32 = 4294967294;
 
 const NO_HISTORY: u32 = 4294967295;
-
-fn two_bytes(high: u8, low: u8) -> usize
-    ensures { λ r. ⌜ r ≤ 65535 ⌝ }
-{
-    256 * (high as usize) + (low as usize)
-}
 
 // A number in six columns, then a byte.
 fn show(number: u32, end: u8)
@@ -86,31 +79,22 @@ fn score_one(sheet: &[u8]) {
     }
 }
 
-// Reads a sheet as long as what is lent, and scores it; no sheet where the input ends before.
-fn score_read(sheet: &mut [u8]) -> bool {
-    let got = io::read_full(STDIN, sheet);
-    if got < sheet.len() {
-        return false;
-    }
-    score_one(sheet);
-    true
-}
-
-// Scores the next sheet, if there is one.
-fn score_next() -> bool {
-    let mut head = [0u8; 2];
-    let got = io::read_full(STDIN, &mut head);
-    if got < 2 {
-        return false;
-    }
-    let bytes = two_bytes(head[0], head[1]);
-    let mut sheet = [0u8; 65535];
-    score_read(&mut sheet[..bytes])
+// Scores the sheet of a name.
+fn score_named(word: usize) {
+    let mut sheet = [0u8; SHEET];
+    let Got::Bytes(bytes) = test_files::read(word, b".sheet", &mut sheet) else {
+        test_files::tell(word, b" is missing\n");
+        return;
+    };
+    test_files::tell(word, b"\n");
+    score_one(&sheet[..bytes]);
 }
 
 fn main() {
-    let mut left = MOST;
-    while left > 0 && score_next() {
-        left -= 1;
+    let words = os::arg_count();
+    let mut i: usize = 1;
+    while i < words {
+        score_named(i);
+        i += 1;
     }
 }

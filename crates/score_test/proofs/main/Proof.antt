@@ -1,24 +1,27 @@
--- The loop counts its turns down.
+-- The arguments are taken one after the other.
 -- Assumes nothing.
-use Prim.Native.Nat.{_≤_}
+use Prim.Native.Nat.{_-_, _≤_}
 use borrow.Author.Needs.{needs}
 use Rattle.score_test.proofs.main.Statement.{statement}
 use Rattle.score_test.proofs.main.Tie as tie
 
 abbrev Inv-loop : tie.InvT-loop
-Inv-loop left₀ left = left ≤ 1000000
+Inv-loop words i₀ i = 1 ≤ i
 
 abbrev μ-loop : tie.MeasureT-loop
-μ-loop left₀ left = left
+μ-loop words i₀ i = words - i
+
+arg-count-requires : tie.Need-arg-count-requires Inv-loop μ-loop
+arg-count-requires c κs = search needs
 
 loop-holds : tie.Need-loop-holds Inv-loop μ-loop
 loop-holds c = search needs
 
-score-next-requires : tie.Need-score-next-requires Inv-loop μ-loop
-score-next-requires c κs = search needs
+score-named-requires : tie.Need-score-named-requires Inv-loop μ-loop
+score-named-requires c κs = search needs
 
-sub-left : tie.Need-sub-left Inv-loop μ-loop
-sub-left c = search needs
+add-i : tie.Need-add-i Inv-loop μ-loop
+add-i c = search needs
 
 loop-less : tie.Need-loop-less Inv-loop μ-loop
 loop-less c = search needs
@@ -29,19 +32,16 @@ loop-again c = search needs
 returns : tie.Need-returns Inv-loop μ-loop
 returns c = search needs
 
-returns-2 : tie.Need-returns-2 Inv-loop μ-loop
-returns-2 c = search needs
-
 pub main-spec : {M : Type 1} → statement M
 main-spec =
     tie.close
     (tie.spec
     Inv-loop
     μ-loop
+    arg-count-requires
     loop-holds
-    score-next-requires
-    sub-left
+    score-named-requires
+    add-i
     loop-less
     loop-again
-    returns
-    returns-2)
+    returns)

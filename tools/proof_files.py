@@ -1,0 +1,62 @@
+"""Proof files as the tools read and write them: what a check offers, tidied, and the answers in a file by the name of the need.
+
+A proof file has a clause for each need that the borrow checker leaves (`NAME : tie.Need-NAME`, then `NAME c = ANSWER`), for each loop its
+invariant and measure (`Inv-loop`, `μ-loop`), and at the end the theorem that puts them together.
+"""
+import re
+
+OFFER = re.compile(r"help: write (\S+/Proof\.antt) with these lines")
+CLAUSE = re.compile(r"(?:abbrev )?(\S+)\s*: tie\.(\S+)")
+# Imports that only goals printed in full need, and where in the source a need comes from.
+SPARE = re.compile(r"use Rattle·\S+ as (?:\S+-)?(?:reads|lts)$|-- src/")
+
+
+def root():
+    """The folder of crates.txt, from the working folder upwards."""
+    import os
+
+    folder = os.getcwd()
+    while not os.path.exists(os.path.join(folder, "crates.txt")):
+        if folder == os.path.dirname(folder):
+            raise SystemExit("no crates.txt here or above")
+        folder = os.path.dirname(folder)
+    return folder
+
+
+def offers(output):
+    """The files that a check offers: path and text, tidied, each need of a loop's function answered by `search needs`."""
+    lines = output.split("\n")
+    i = 0
+    while i < len(lines):
+        offer = OFFER.match(lines[i])
+        i += 1
+        if not offer:
+            continue
+        body = []
+        while i < len(lines) and (lines[i].startswith("    ") or not lines[i]):
+            body.append(lines[i][4:])
+            i += 1
+        yield offer.group(1), tidied("\n".join(body).rstrip("\n") + "\n")
+
+
+def tidied(text):
+    text = "\n".join(line for line in text.split("\n") if not SPARE.match(line))
+    if "\nInv-" in text or "\nμ-" in text:
+        text = re.sub(r"(?m)^((?!Inv-|μ-)\S+(?: \S+)*) = \?$", r"\1 = search needs", text)
+        if "borrow.Author.Needs" not in text:
+            text = "use borrow.Author.Needs.{needs}\n" + text
+    return text
+
+
+def blocks(text):
+    """The text's parts between blank lines, each with the name of its need, None for other parts."""
+    for block in text.split("\n\n"):
+        clause = CLAUSE.search(block)
+        yield (clause.group(1) if clause and not block.startswith("pub ") else None), block
+
+
+def answer(block, name):
+    """What stands in a need's block behind its first line: unfoldings and the clause."""
+    lines = block.split("\n")
+    first = next(i for i, line in enumerate(lines) if re.match(rf"(?:abbrev )?{re.escape(name)}\s*: tie\.", line))
+    return lines[: first + 1], lines[first + 1 :]
