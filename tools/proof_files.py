@@ -3,6 +3,7 @@
 A proof file has a clause for each need that the borrow checker leaves (`NAME : tie.Need-NAME`, then `NAME c = ANSWER`), for each loop its
 invariant and measure (`Inv-loop`, `μ-loop`), and at the end the theorem that puts them together.
 """
+import os
 import re
 
 OFFER = re.compile(r"help: write (\S+/Proof\.antt) with these lines")
@@ -10,11 +11,18 @@ CLAUSE = re.compile(r"(?:abbrev )?(\S+)\s*: tie\.(\S+)")
 # Imports that only goals printed in full need, and where in the source a need comes from.
 SPARE = re.compile(r"use Rattle·\S+ as (?:\S+-)?(?:reads|lts)$|-- src/")
 
+# A name's modules, but for those that paths to facts have.
+PREFIX = re.compile(r"(?<![\w/·])(?:[A-Za-z]\w*(?:·\w+)*\.)+(?=[^\s.0-9(])")
+
+
+def shortened(line):
+    """A line of a check's output without modules and folders."""
+    keep = lambda prefix: prefix.group(0) if re.match(r"(?:tie|reads|lts|c)\.", prefix.group(0)) else ""
+    return PREFIX.sub(keep, re.sub(r"\S*/crates/", "", line))
+
 
 def root():
     """The folder of crates.txt, from the working folder upwards."""
-    import os
-
     folder = os.getcwd()
     while not os.path.exists(os.path.join(folder, "crates.txt")):
         if folder == os.path.dirname(folder):
@@ -24,7 +32,7 @@ def root():
 
 
 def offers(output):
-    """The files that a check offers: path and text, tidied, each need of a loop's function answered by `search needs`."""
+    """The files that a check offers: path and text, tidied."""
     lines = output.split("\n")
     i = 0
     while i < len(lines):
@@ -40,12 +48,16 @@ def offers(output):
 
 
 def tidied(text):
-    text = "\n".join(line for line in text.split("\n") if not SPARE.match(line))
-    if "\nInv-" in text or "\nμ-" in text:
-        text = re.sub(r"(?m)^((?!Inv-|μ-)\S+(?: \S+)*) = \?$", r"\1 = search needs", text)
-        if "borrow.Author.Needs" not in text:
-            text = "use borrow.Author.Needs.{needs}\n" + text
-    return text
+    return "\n".join(line for line in text.split("\n") if not SPARE.match(line))
+
+
+def searched(text):
+    """Every hole left to `search needs`, once no invariant or measure is a hole."""
+    if re.search(r"(?m)^(?:Inv-|μ-).* = \?$", text):
+        return text
+    text = re.sub(r"(?m)^(\S+(?: \S+)*) = \?$", r"\1 = search needs", text)
+    needs = "use borrow.Author.Needs.{needs}"
+    return text if "search" not in text or needs in text else f"{needs}\n{text}"
 
 
 def blocks(text):
