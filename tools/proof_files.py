@@ -14,9 +14,14 @@ SPARE = re.compile(r"use Rattle·\S+ as (?:\S+-)?(?:reads|lts)$|-- src/")
 # A name's modules, but for those that paths to facts have.
 PREFIX = re.compile(r"(?<![\w/·])(?:[A-Za-z]\w*(?:·\w+)*\.)+(?=[^\s.0-9(])")
 
+# An error that another error or a hole has brought about.
+FOLLOWS = re.compile(r"` was not admitted \(it has|because it was not admitted")
+
 
 def shortened(line):
-    """A line of a check's output without modules and folders."""
+    """A line of a check's output without folders, and without modules but where a name is not found."""
+    if "not in scope" in line or "no `" in line:
+        return re.sub(r"\S*/crates/", "", line)
     keep = lambda prefix: prefix.group(0) if re.match(r"(?:tie|reads|lts|c)\.", prefix.group(0)) else ""
     return PREFIX.sub(keep, re.sub(r"\S*/crates/", "", line))
 

@@ -14,7 +14,7 @@ use Rattle.family.specs.Buffers.{leastWords, leastBytes}
 use Rattle.score.specs.declared.Answer.{Answer}
 use Rattle.score.specs.declared.Answer.the-variants.{Report, Refused}
 use Rattle.score.specs.Contents.{contentsOf}
-use Rattle.score.specs.Refusals.{refusal}
+use Rattle.score.specs.Refusals.{highest, refusal}
 use Rattle.score.specs.Outcome.{Promise}
 use Rattle.score.proofs.Answers.{says-of, report-fits}
 use Rattle.score.proofs.Promises.{verdict-report, verdict-refused}
@@ -61,5 +61,5 @@ module _ (text : List ℕ) (bytes : ℕ) (d e u t : List ℕ) (r : Answer) (long
         fits = omega (arith, ap length f, length-written d (refusedLine k) (omega (arith, length-line k)), length-line k);
       }
 
-  pub refusal-fits : (k : ℕ) → r ≡ Refused k → (k ≤ 13) × (14 ≤ length e)
+  pub refusal-fits : (k : ℕ) → r ≡ Refused k → (k ≤ highest) × (14 ≤ length e)
   refusal-fits k q = let i = says-of p q in (i .high, omega (arith, ap length (i .result-kept)))

@@ -19,7 +19,7 @@ use Rattle.score.specs.declared.Answer.the-variants.{Report, Refused}
 use Rattle.family.specs.Families.{Contents}
 use Rattle.family.specs.Reports.{reportIn}
 use Rattle.score.specs.Contents.{contentsOf}
-use Rattle.score.specs.Refusals.{bufferRefusals, textRefusals, curatorRefusals, refusals, refusal}
+use Rattle.score.specs.Refusals.{highest, bufferRefusals, textRefusals, curatorRefusals, refusals, refusal}
 use Rattle.score.specs.Outcome.{numberOf, answerBy, IsReport, Says, Promise}
 
 -- the answer of a verdict
@@ -41,20 +41,20 @@ unfolding verdict Low
 verdict-low k [] l = omega arith
 verdict-low k (r ∷ rs) (a, l) = byBool (r .test) (λ t. rw t a) (λ t. rw t (verdict-low k rs l))
 
-all-low : (s : List ℕ) (b w : ℕ) → Low 13 (refusals s b w)
+all-low : (s : List ℕ) (b w : ℕ) → Low highest (refusals s b w)
 unfolding Low refusals bufferRefusals textRefusals curatorRefusals networkRefusals afterSix shapeRefusals afterEight componentRefusals geneRefusals speciesRefusals
 all-low s b w = (omega arith, (omega arith, (omega arith, (omega arith, (omega arith, (omega arith, (omega arith, (omega arith, (omega arith, (omega arith, (omega arith, (omega arith, (omega arith, tt)))))))))))))
 
--- a refusal's number is one of 13
-pub refusal-small : (s : List ℕ) (b w : ℕ) → refusal s b w ≤ 13
+-- a refusal's number is at most the highest
+pub refusal-small : (s : List ℕ) (b w : ℕ) → refusal s b w ≤ highest
 unfolding refusal
-refusal-small s b w = verdict-low 13 (refusals s b w) (all-low s b w)
+refusal-small s b w = verdict-low highest (refusals s b w) (all-low s b w)
 
 -- what the promise says of an answer in hand
 pub says-of : {s d e u t : List ℕ} {r a : Answer} → Promise s d e u t r → r ≡ a → Says s d e u t a
 says-of {s} {d} {e} {u} {t} p q = subst (λ (x : Answer). Says s d e u t x) q (p .says)
 
-pub refused-small : {s d e u t : List ℕ} {r : Answer} {k : ℕ} → Promise s d e u t r → r ≡ Refused k → k ≤ 13
+pub refused-small : {s d e u t : List ℕ} {r : Answer} {k : ℕ} → Promise s d e u t r → r ≡ Refused k → k ≤ highest
 refused-small p q = says-of p q .high
 
 -- a report fits the result

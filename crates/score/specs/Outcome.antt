@@ -15,7 +15,7 @@ use Rattle.family.specs.Reports.{reportIn, Reported}
 use Rattle.score.specs.declared.Answer.{Answer}
 use Rattle.score.specs.declared.Answer.the-variants.{Report, Refused}
 use Rattle.score.specs.Contents.{contentsOf}
-use Rattle.score.specs.Refusals.{refusals, refusal}
+use Rattle.score.specs.Refusals.{highest, refusals, refusal}
 
 -- the paper's number for each case: "A refusal returns its number .. A scored sheet returns how many bytes it wrote to the result"
 abbrev pub numberOf : Answer → ℕ
@@ -44,7 +44,7 @@ module _ (sheet result resultAfter scratch scratchAfter : List ℕ) where
   -- "the first that applies is given. A refusal returns its number; result and scratch are untouched"
   pub record IsRefused (k : ℕ) : Type 0 where
     pub low : 1 ≤ k
-    pub high : k ≤ 13
+    pub high : k ≤ highest
     pub first : First (refusals sheet (length result) (length scratch)) k
     pub result-kept : resultAfter ≡ result
     pub scratch-kept : scratchAfter ≡ scratch
