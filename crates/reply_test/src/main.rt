@@ -1,5 +1,5 @@
 // Replies to each sheet of data/ that its arguments name, as the program lgt_score does, and compares the reply with the report beside the sheet. The
-// reports are from the rules or worked out apart from the program: tools/reply_sheets.py writes most of the sheets and says how, and compare/run holds
+// reports are from the rules or worked out apart from the program: tools/test_sheets.py makes most of the sheets and says how, and compare/run holds
 // all of them to the independent implementation. The folder sheets/ of the repository is this data/.
 use test_files::Got;
 
