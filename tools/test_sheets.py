@@ -5,9 +5,9 @@
 
 A sheet sheets/NAME.sheet has beside it what the program must write for it, sheets/NAME.report. To add one, write both files, the report from
 the rules and not from the program, and run this: it lists every sheet in the test program's arguments and expected output. The sheets named
-refused-* and `longest` are made here, their replies worked out from the rules: a refusal's number by the one thing that is wrong with its
-sheet, and the longest sheet's report from its making (the gene tree is the species tree, so every gene sits at the node of its own number and
-nothing is lost).
+refused-* and longest* are made here, their replies worked out from the rules: a refusal's number by the one thing that is wrong with its
+sheet, and the longest sheets' reports from their making (the gene tree is the species tree, so every gene sits at the node that it was made with,
+and nothing is lost).
 """
 import glob
 import os
@@ -41,13 +41,14 @@ def with_gene(g, gene):
     return sheet(COSTS, NODES, GENES[: g - 1] + [gene] + GENES[g:])
 
 
-def caterpillar():
-    """127 nodes and genes: inner ones 1 to 63 in a row, each with a leaf, the last with two."""
-    inner = range(1, 64)
-    nodes = [(v - 1, 0, v - 1, 0) for v in inner] + [(min(j, 63), 0, 99, j) for j in range(1, 65)]
+def caterpillar(number=lambda v: v):
+    """127 nodes and genes: inner ones in a row, each with a leaf, the last with two. Nodes are numbered from the root down, or otherwise."""
+    inner, name = range(1, 64), lambda v: number(v) if v else 0
+    placed = {name(v): (name(v - 1), 0, v - 1, 0) for v in inner}
+    placed |= {name(63 + j): (name(min(j, 63)), 0, 99, j) for j in range(1, 65)}
     genes = [(g - 1, 0) for g in inner] + [(min(j, 63), j) for j in range(1, 65)]
-    report = [(0, 0, 0, 0, 0), (0, 127, 127, 0, 0)] + [(g, g, 1 if g <= 63 else 0, 0, 0) for g in range(1, 128)]
-    return sheet(COSTS, nodes, genes), report
+    report = [(0, 0, 0, 0, 0), (0, 127, 127, 0, 0)] + [(g, name(g), 1 if g <= 63 else 0, 0, 0) for g in range(1, 128)]
+    return sheet(COSTS, [placed[v] for v in range(1, 128)], genes), report
 
 
 def ladder(rungs):
@@ -69,12 +70,14 @@ def ladder(rungs):
 def cases():
     """(name, text, report or number of refusal)"""
     longest, longest_report = caterpillar()
+    upward, upward_report = caterpillar(lambda v: 128 - v)
     assert len(longest) == 7905
     chained = [(0, 0, 0, 0), (1, 0, 1, 0), (2, 4, 2, 0), (1, 0, 2, 0), (2, 0, 9, 1), (3, 7, 3, 0), (4, 0, 3, 0), (6, 0, 9, 2), (7, 0, 9, 3)]
     rows = K.split("\n")
     nodes_128 = K.replace("     7     5", "   128     5", 1)
     return [
         ("longest", longest, longest_report),
+        ("longest-numbered-upward", upward, upward_report),
         ("refused-03-nothing", "", 3),
         ("refused-03-no-line-feed", K[:30], 3),
         ("refused-03-letter", K.replace("7", "x", 1), 3),
@@ -118,7 +121,7 @@ def written(reply):
 
 
 def main():
-    for made in glob.glob("sheets/refused-*") + glob.glob("sheets/longest.*"):
+    for made in glob.glob("sheets/refused-*") + glob.glob("sheets/longest*"):
         os.remove(made)
     for name, text, reply in cases():
         for ending, content in (("sheet", text), ("report", written(reply))):
