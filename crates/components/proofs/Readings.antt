@@ -52,7 +52,7 @@ module _ (N : Network) (ok : Sound N) where
 module _ (L : NodeLines) where
   pub components-tell : Sound (network L) → AllTell (componentRefusals L)
   unfolding componentRefusals
-  components-tell ok = one-more (record { some = λ e. let z : _≡_ {A = ℕ} 11 0 = e in omega arith; yes = reading-11 (network L) ok .0; refused = reading-11 (network L) ok .1 }) (λ _. no-more)
+  components-tell ok = one-more (record { some = λ e. let z : _≡_ {A = ℕ} 11 0 = e in omega arith; small = omega arith; yes = reading-11 (network L) ok .0; refused = reading-11 (network L) ok .1 }) (λ _. no-more)
 
   -- the verdict by the test
   pub verdict-crowded : refusal11 (network L) ≡ true → verdict (componentRefusals L) ≡ 11

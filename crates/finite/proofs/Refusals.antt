@@ -1,13 +1,13 @@
 -- What the verdict of a list of refusals tells: the first whose condition holds, or that none does. Each refusal's test tells its condition, so that the
 -- walk along the tests is the walk along the conditions.
 -- Assumes nothing.
-use Prim.Native.Nat.{ℕ, _≤_}
+use Prim.Native.Nat.{ℕ, _≤_, _<_}
 use mathlib.Core.Path.{_≡_, refl, sym, _∙_}
 use mathlib.Core.Logic.{_≢_, _↔_, inl, inr}
 use mathlib.Core.Bool.{Bool, true, false}
 use mathlib.Core.List.{List, [], _∷_, _++_}
 use native.Mathlib.Omega.{arith}
-use Rattle.finite.specs.Refusals.{Refusal, verdict, First, NoneApplies, Tells, AllTell, no-more, one-more}
+use Rattle.finite.specs.Refusals.{leastReport, Refusal, verdict, First, NoneApplies, Tells, AllTell, no-more, one-more}
 use Rattle.finite.proofs.Cases.{byBool, byEq, clash}
 
 pub verdict-end : verdict [] ≡ 0
@@ -28,8 +28,8 @@ module _ (r : Refusal) (rs : List Refusal) where
   verdict-none d e = byBool (r .test) (λ t. absurd (d (sym (verdict-here t) ∙ e))) (λ t. (t, sym (verdict-later t) ∙ e))
 
 -- a refusal whose test and condition come to the same
-pub tell : (k : ℕ) {t : Bool} {P : Type 0} → 1 ≤ k → (t ≡ true) ↔ P → Tells (record { number = k; test = t; condition = P })
-tell k l h = record { some = λ e. omega arith; yes = h .0; refused = h .1 }
+pub tell : (k : ℕ) {t : Bool} {P : Type 0} → (1 ≤ k) × (k < leastReport) → (t ≡ true) ↔ P → Tells (record { number = k; test = t; condition = P })
+tell k l h = record { some = λ e. omega arith; small = l .1; yes = h .0; refused = h .1 }
 
 denied : {r : Refusal} → Tells r → r .test ≡ false → ¬ (r .condition)
 denied t f c = clash (t .refused c) f
@@ -95,3 +95,9 @@ pub all-tell : (rs ss : List Refusal) → AllTell rs → (verdict rs ≡ 0 → A
 unfolding verdict
 all-tell [] ss no-more u = u refl
 all-tell (r ∷ rs) ss (one-more t ts) u = one-more t (λ f. all-tell rs ss (ts f) (λ e. u (verdict-later r rs f ∙ e)))
+
+-- a verdict is small
+pub verdict-small : (rs : List Refusal) → AllTell rs → verdict rs < leastReport
+unfolding verdict
+verdict-small [] no-more = omega arith
+verdict-small (r ∷ rs) (one-more t ts) = byBool (r .test) (λ y. rw y (t .small)) (λ f. rw f (verdict-small rs (ts f)))

@@ -1,7 +1,7 @@
 -- Refusals in the order of checking (01, "Refusals, by who can cause them"): "the first that applies is given". First and before go by place in a
 -- list, never by the size of numbers.
 -- Assumes nothing.
-use Prim.Native.Nat.{ℕ}
+use Prim.Native.Nat.{ℕ, _<_}
 use mathlib.Core.Path.{_≡_}
 use mathlib.Core.Logic.{_≢_, _⊎_}
 use mathlib.Core.Bool.{Bool, true, false, cond}
@@ -28,9 +28,14 @@ unfoldable pub NoneApplies : List Refusal → Type 0
 NoneApplies [] = Unit {0}
 NoneApplies (r ∷ rs) = (¬ (r .condition)) × NoneApplies rs
 
--- the test tells the condition, and the number is not 0, which stands for none
+-- the bytes of three lines, which every report has at least: the number of a refusal is less
+abbrev pub leastReport : ℕ
+leastReport = 93
+
+-- the test tells the condition, and the number is not 0, which stands for none, and is no report's
 pub record Tells (r : Refusal) : Type 0 where
   pub some : r .number ≢ 0
+  pub small : r .number < leastReport
   pub yes : r .test ≡ true → r .condition
   pub refused : r .condition → r .test ≡ true
 

@@ -139,11 +139,11 @@ module _ (L : NodeLines) (K : GeneLines) where
   -- each test tells its condition
   pub species-tell : AllTell (speciesRefusals L K)
   unfolding speciesRefusals
-  species-tell = one-more (record { some = λ e. let z : _≡_ {A = ℕ} 13 0 = e in omega arith; yes = from-13; refused = to-13 }) (λ _. no-more)
+  species-tell = one-more (record { some = λ e. let z : _≡_ {A = ℕ} 13 0 = e in omega arith; small = omega arith; yes = from-13; refused = to-13 }) (λ _. no-more)
 
   pub gene-tell : AllTell (geneRefusals L K)
   unfolding geneRefusals
-  gene-tell = one-more (record { some = λ e. let z : _≡_ {A = ℕ} 12 0 = e in omega arith; yes = from-12 K; refused = to-12 K }) (λ _. species-tell)
+  gene-tell = one-more (record { some = λ e. let z : _≡_ {A = ℕ} 12 0 = e in omega arith; small = omega arith; yes = from-12 K; refused = to-12 K }) (λ _. species-tell)
 
   -- the verdict by its tests, as the code finds it
   pub verdict-12 : refusal12 K ≡ true → verdict (geneRefusals L K) ≡ 12

@@ -4,7 +4,7 @@
 -- Assumes nothing.
 use mathlib.Core.List.{List, [], _∷_, _++_}
 use Prim.Native.Nat.{ℕ}
-use Rattle.score.specs.declared.Answer.the-variants.{Report, Refused}
+use Rattle.answer.specs.declared.Answer.the-variants.{Report, Refused}
 use Rattle.sheet_rows.specs.Rows.{ln, Row}
 
 -- the word that stands for no history

@@ -96,4 +96,4 @@ module _ (L : NodeLines) where
   -- the five one after the other
   pub network-tells : AllTell (networkRefusals L)
   unfolding networkRefusals afterSix
-  network-tells = one-more (tell 6 (omega arith) reading-6) (λ _. one-more (tell 7 (omega arith) reading-7) (λ _. shapes-tell L))
+  network-tells = one-more (tell 6 (omega arith, omega arith) reading-6) (λ _. one-more (tell 7 (omega arith, omega arith) reading-7) (λ _. shapes-tell L))

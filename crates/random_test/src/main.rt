@@ -11,6 +11,7 @@ mod reports;
 mod settings;
 mod text;
 
+use answer::Answer;
 use board::Board;
 use board::GENES;
 use board::HEADER;
@@ -24,7 +25,6 @@ use board::add;
 use board::get;
 use board::set;
 use board::times;
-use score::Answer;
 use text::Text;
 ghost use Prim.Native.Nat.{_≤_};
 

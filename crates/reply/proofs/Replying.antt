@@ -6,18 +6,18 @@ use mathlib.Core.List.{List}
 use Prim.Native.Nat.{ℕ, _≤_, _<_}
 use native.Mathlib.Omega.{arith}
 use lib.ListN.{length, take}
+use Rattle.finite.specs.Refusals.{leastReport}
 use Rattle.finite.proofs.Tests.{is-same, not-same}
 use Rattle.columns.specs.Writing.{written}
 use Rattle.columns.proofs.Writing.{length-written}
 use Rattle.family.specs.Reports.{reportIn}
 use Rattle.family.specs.Buffers.{leastWords, leastBytes}
-use Rattle.score.specs.declared.Answer.{Answer}
-use Rattle.score.specs.declared.Answer.the-variants.{Report, Refused}
+use Rattle.answer.specs.declared.Answer.{Answer}
+use Rattle.answer.specs.declared.Answer.the-variants.{Report, Refused}
 use Rattle.score.specs.Contents.{contentsOf}
-use Rattle.score.specs.Refusals.{highest, refusal}
+use Rattle.score.specs.Refusals.{refusal}
 use Rattle.score.specs.Outcome.{Promise}
-use Rattle.score.proofs.Answers.{says-of, report-fits}
-use Rattle.score.proofs.Promises.{verdict-report, verdict-refused}
+use Rattle.answer.proofs.Answers.{says-of, report-fits, verdict-report, verdict-refused}
 use Rattle.reply.specs.Refused.{refusedLine}
 use Rattle.reply.specs.Replies.{longestSheet, replyOf, Replied}
 use Rattle.reply.proofs.Cutting.{cut}
@@ -32,11 +32,11 @@ module _ (text : List ℕ) (bytes : ℕ) (d e u t : List ℕ) (r : Answer) (long
   same-reply w q = ap replyOf (sym q) ∙ cut w (length text) long
 
   report-reply : (b : ℕ) → r ≡ Report b → replyOf s ≡ reportIn (contentsOf s)
-  unfolding replyOf
+  unfolding replyOf refusal
   report-reply b q = rw (is-same (ap (λ (x : ℕ). refusal s x leastWords) (sym ld) ∙ ap (λ (x : ℕ). refusal s (length d) x) (sym lu) ∙ verdict-report p q))
 
   refused-reply : (k : ℕ) → r ≡ Refused k → replyOf s ≡ refusedLine k
-  unfolding replyOf
+  unfolding replyOf refusal
   refused-reply k q =
       let v : refusal s leastBytes leastWords ≡ k = ap (λ (x : ℕ). refusal s x leastWords) (sym ld) ∙ ap (λ (x : ℕ). refusal s (length d) x) (sym lu) ∙ verdict-refused p q in
       let z = says-of p q .low in
@@ -61,5 +61,5 @@ module _ (text : List ℕ) (bytes : ℕ) (d e u t : List ℕ) (r : Answer) (long
         fits = omega (arith, ap length f, length-written d (refusedLine k) (omega (arith, length-line k)), length-line k);
       }
 
-  pub refusal-fits : (k : ℕ) → r ≡ Refused k → (k ≤ highest) × (14 ≤ length e)
-  refusal-fits k q = let i = says-of p q in (i .high, omega (arith, ap length (i .result-kept)))
+  pub refusal-fits : (k : ℕ) → r ≡ Refused k → (k < leastReport) × (14 ≤ length e)
+  refusal-fits k q = let i = says-of p q in (i .apart, omega (arith, ap length (i .result-kept)))

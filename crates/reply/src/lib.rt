@@ -1,11 +1,11 @@
 // What is written for a family sheet: its report, or the line of its refusal.
-use score::Answer;
+use answer::Answer;
 ghost use mathlib.Core.Path.{_≡_};
 ghost use Prim.Native.Nat.{_≤_, _<_};
 ghost use lib.ListN.{length};
 ghost use Rattle.columns.specs.Writing.{written};
 ghost use Rattle.family.specs.Buffers.{leastBytes};
-ghost use Rattle.score.specs.Refusals.{highest};
+ghost use Rattle.finite.specs.Refusals.{leastReport};
 ghost use Rattle.reply.specs.Refused.{refusedLine};
 ghost use Rattle.reply.specs.Replies.{longestSheet, Replied};
 
@@ -16,7 +16,7 @@ const LINE: usize = 14;
 
 // The line that tells a refusal.
 fn refused_line(k: u32) -> [u8; LINE]
-    requires { ⌜ k ≤ highest ⌝ }
+    requires { ⌜ k < leastReport ⌝ }
     ensures { λ r. ⌜ r ≡ refusedLine k ⌝ }
 {
     let mut line = [
@@ -41,7 +41,7 @@ fn refused_line(k: u32) -> [u8; LINE]
 
 // Writes that line to the front of what is lent, and returns its length.
 fn write_refusal(out: &mut [u8], k: u32) -> usize
-    requires { ⌜ (k ≤ highest) × (14 ≤ length (now out)) ⌝ }
+    requires { ⌜ (k < leastReport) × (14 ≤ length (now out)) ⌝ }
     ensures { λ r. ⌜ (now (out .exit) ≡ written (now (out .entry)) (refusedLine k)) × (r ≡ 14) ⌝ }
 {
     let line = refused_line(k);

@@ -8,13 +8,12 @@ use mathlib.Core.Bool.{Bool, true, false, not, _&&_}
 use mathlib.Core.List.{List}
 use lib.ListN.{length}
 use native.Mathlib.Omega.{arith}
-use Rattle.finite.specs.Tests.{same}
 use Rattle.finite.specs.Range.{every}
 use Rattle.finite.specs.Tables.{at, within}
 use Rattle.finite.specs.Refusals.{verdict}
 use Rattle.finite.proofs.Tables.{within-same}
 use Rattle.finite.proofs.Cases.{byBool}
-use Rattle.finite.proofs.Tests.{not-same, and-no-r, told-not-yes, told-not-no, not-false}
+use Rattle.finite.proofs.Tests.{and-no-r, told-not-yes, told-not-no, not-false}
 use Rattle.text_lines.specs.Lines.{fieldCount}
 use Rattle.tables.specs.Columns.{spaced}
 use Rattle.topology.specs.Lines.{network}
@@ -30,25 +29,17 @@ use Rattle.sheet.specs.declared.Headed.the-variants.{Header as accepted, Refuse
 use Rattle.sheet.proofs.Limits.{limits-is}
 use Rattle.sheet.proofs.Storing.{cells-at}
 use Rattle.sheet.proofs.Refusals.{nodes-told, genes-told, cell-small}
-use Rattle.score.specs.declared.Answer.{Answer}
-use Rattle.score.specs.declared.Answer.the-variants.{Report, Refused}
+use Rattle.answer.specs.declared.Answer.{Answer}
+use Rattle.answer.specs.declared.Answer.the-variants.{Refused}
 use Rattle.family.specs.Families.{Contents}
 use Rattle.family.specs.Buffers.{leastWords, leastBytes}
-use Rattle.family.specs.inner.Stages.{contentsBy, Written}
+use Rattle.family.specs.inner.Stages.{contentsBy}
 use Rattle.score.specs.Contents.{nodeLines, geneLines, contentsOf}
 use Rattle.score.specs.Refusals.{curatorRefusals, refusal}
-use Rattle.score.specs.Outcome.{answerBy, resultBy, scratchBy, Outcome}
+use Rattle.answer.specs.Outcome.{Outcome}
+use Rattle.answer.proofs.Answers.{refuses}
 use Rattle.score.specs.inner.Stages.{Numbered, OutcomeBy, OutcomeOf}
 use Rattle.score.proofs.Refusals.{refusal-1, refusal-2, refusal-3, refusal-4, refusal-5, refusal-later}
-
--- a refusal, and a report
-pub refuses : (q k : ℕ) (X : Contents) (d u : List ℕ) → q ≡ k → k ≢ 0 → Outcome q X d d u u (Refused k)
-unfolding answerBy resultBy scratchBy
-refuses q k X d u e z = rw (e) (record { answer = rw (not-same z); result = rw (not-same z); scratch = rw (not-same z) })
-
-pub reports : (q : ℕ) (X : Contents) (d e u t : List ℕ) (r : ℕ) → q ≡ 0 → Written X d e u t r → Outcome q X d e u t (Report r)
-unfolding answerBy resultBy scratchBy same
-reports q X d e u t r z w = rw z (record { answer = ap Report (w .bytes); result = w .result; scratch = w .scratch })
 
 -- what an accepted header says
 pub record HeaderIs (s : List ℕ) (h : Header) : Type 0 where

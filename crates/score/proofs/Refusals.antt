@@ -35,11 +35,11 @@ under-iff m n = (under-is m n, λ l. is-under l)
 -- each test tells its condition
 buffers-tell : (bytes words : ℕ) → AllTell (bufferRefusals bytes words)
 unfolding bufferRefusals
-buffers-tell bytes words = one-more (tell 1 (omega arith) (under-iff words leastWords)) (λ _. one-more (tell 2 (omega arith) (under-iff bytes leastBytes)) (λ _. no-more))
+buffers-tell bytes words = one-more (tell 1 (omega arith, omega arith) (under-iff words leastWords)) (λ _. one-more (tell 2 (omega arith, omega arith) (under-iff bytes leastBytes)) (λ _. no-more))
 
 text-tells : (s : List ℕ) → AllTell (textRefusals s)
 unfolding textRefusals
-text-tells s = one-more (tell 3 (omega arith) (reading-3 s)) (λ f. one-more (tell 4 (omega arith) (reading-4 s f)) (λ _. one-more (tell 5 (omega arith) (reading-5 s f)) (λ _. no-more)))
+text-tells s = one-more (tell 3 (omega arith, omega arith) (reading-3 s)) (λ f. one-more (tell 4 (omega arith, omega arith) (reading-4 s f)) (λ _. one-more (tell 5 (omega arith, omega arith) (reading-5 s f)) (λ _. no-more)))
 
 -- 11 asks for the components, which a sound network has
 module _ (X : Contents) (o : NoOthers (X .nodes)) where

@@ -1,74 +1,14 @@
--- What the call that scores a sheet answers and leaves (01): the refusals in the order of checking, then the report; and the promise of the call, part by
--- part.
+-- The promise of the call that scores a sheet: that of a call with the refusals of its sheet, which scores the contents of its sheet.
 -- Assumes nothing.
-use mathlib.Core.Path.{_≡_}
-use mathlib.Core.Bool.{cond}
-use mathlib.Core.List.{List, _++_}
-use Prim.Native.Nat.{ℕ, _*_, _≤_}
-use lib.ListN.{length, drop}
-use Rattle.finite.specs.Tests.{same}
-use Rattle.finite.specs.Refusals.{First, NoneApplies}
-use Rattle.histories.specs.Words.{words}
-use Rattle.columns.specs.Writing.{written}
-use Rattle.family.specs.Families.{Contents, familyIn}
-use Rattle.family.specs.Reports.{reportIn, Reported}
-use Rattle.score.specs.declared.Answer.{Answer}
-use Rattle.score.specs.declared.Answer.the-variants.{Report, Refused}
+use mathlib.Core.List.{List}
+use Prim.Native.Nat.{ℕ}
+use lib.ListN.{length}
+use Rattle.answer.specs.declared.Answer.{Answer}
+use Rattle.answer.specs.Outcome as Call
 use Rattle.score.specs.Contents.{contentsOf}
-use Rattle.score.specs.Refusals.{highest, refusals, refusal}
+use Rattle.score.specs.Refusals.{refusals}
 
--- the paper's number for each case: "A refusal returns its number .. A scored sheet returns how many bytes it wrote to the result"
-abbrev pub numberOf : Answer → ℕ
-numberOf (Report bytes) = bytes
-numberOf (Refused k) = k
-
--- the answer where refusal k is the first that applies, 0 for none
-unfoldable pub answerBy : ℕ → Contents → Answer
-answerBy k X = cond (same k 0) (Report (length (reportIn X))) (Refused k)
-
--- "result and scratch are untouched" by a refusal; else the report, and the table of the whole network, with what stood behind them
-unfoldable pub resultBy : ℕ → Contents → List ℕ → List ℕ
-resultBy k X d = cond (same k 0) (written d (reportIn X)) d
-
-unfoldable pub scratchBy : ℕ → Contents → List ℕ → List ℕ
-scratchBy k X u = cond (same k 0) (words (familyIn X) ++ drop (X .genes .count * X .nodes .size) u) u
-
--- the call's outcome: a sheet with these contents, of which refusal k is the first that applies; the result was d and is e, the scratch was u and is t
-pub record Outcome (k : ℕ) (X : Contents) (d e u t : List ℕ) (r : Answer) : Type 0 where
-  pub answer : r ≡ answerBy k X
-  pub result : e ≡ resultBy k X d
-  pub scratch : t ≡ scratchBy k X u
-
--- what each case of the answer says of the sheet, of the result and the scratch before and after the call, and of its number
-module _ (sheet result resultAfter scratch scratchAfter : List ℕ) where
-  -- "the first that applies is given. A refusal returns its number; result and scratch are untouched"
-  pub record IsRefused (k : ℕ) : Type 0 where
-    pub low : 1 ≤ k
-    pub high : k ≤ highest
-    pub first : First (refusals sheet (length result) (length scratch)) k
-    pub result-kept : resultAfter ≡ result
-    pub scratch-kept : scratchAfter ≡ scratch
-
-  -- "A scored sheet returns how many bytes it wrote to the result": three lines at least, so never a refusal's number
-  pub record IsReport (b : ℕ) : Type 0 where
-    pub none : NoneApplies (refusals sheet (length result) (length scratch))
-    pub bytes : b ≡ length (reportIn (contentsOf sheet))
-    pub three-lines : 93 ≤ b
-    pub result-written : resultAfter ≡ written result (reportIn (contentsOf sheet))
-    pub scratch-written : scratchAfter ≡ words (familyIn (contentsOf sheet)) ++ drop (contentsOf sheet .genes .count * contentsOf sheet .nodes .size) scratch
-    -- demands 2 and 3
-    pub reported : Reported (contentsOf sheet)
-
-  abbrev pub Says : Answer → Type 0
-  Says (Report b) = IsReport b
-  Says (Refused k) = IsRefused k
-
--- the promise of the call
-pub record Promise (sheet result resultAfter scratch scratchAfter : List ℕ) (answer : Answer) : Type 0 where
-  -- demand 1: a report or a refusal, each under its condition only
-  pub says : Says sheet result resultAfter scratch scratchAfter answer
-  -- and wherever its condition holds
-  pub refuses : (k : ℕ) → First (refusals sheet (length result) (length scratch)) k → answer ≡ Refused k
-  pub scores : NoneApplies (refusals sheet (length result) (length scratch)) → answer ≡ Report (length (reportIn (contentsOf sheet)))
-  -- the same as equations that compute: the answer, the result and the scratch follow from the sheet and the lengths of the buffers
-  pub outcome : Outcome (refusal sheet (length result) (length scratch)) (contentsOf sheet) result resultAfter scratch scratchAfter answer
+-- of the sheet, the result and the scratch before and after the call, and the answer
+abbrev pub Promise : (sheet result resultAfter scratch scratchAfter : List ℕ) → Answer → Type 0
+Promise sheet result resultAfter scratch scratchAfter answer =
+    Call.Promise (refusals sheet (length result) (length scratch)) (contentsOf sheet) result resultAfter scratch scratchAfter answer

@@ -12,10 +12,6 @@ use Rattle.family.specs.Families.{Contents}
 use Rattle.family.specs.Buffers.{leastWords, leastBytes}
 use Rattle.score.specs.Contents.{contentsOf}
 
--- the highest number of a refusal
-abbrev pub highest : ℕ
-highest = 13
-
 -- "The calling program": "scratch under 16,129 words of 32 bits", "result under 5,952 bytes", of a result of so many bytes and a scratch of so many words
 unfoldable pub bufferRefusals : (bytes words : ℕ) → List Refusal
 bufferRefusals bytes words =

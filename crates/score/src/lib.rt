@@ -1,4 +1,5 @@
 // The call that scores a family sheet: the refusals in the order of checking, then the report and the table of the whole network.
+use answer::Answer;
 use layout::Header;
 use layout::lines::Lines;
 use layout::parts::Parts;
@@ -18,12 +19,6 @@ ghost use Rattle.score.specs.inner.Stages.{Lined, Numbered, Curated, Out
 pub const LEAST_WORDS: usize = 16129;
 
 pub const LEAST_BYTES: usize = 5952;
-
-// How many bytes the report has, or the number of the refusal.
-pub enum Answer {
-    Report(usize),
-    Refused(u32),
-}
 
 // The verdict on the gene tree, and the report of a family that passes it.
 fn score_genes(

@@ -3,9 +3,11 @@
 use mathlib.Core.Path.{_≡_}
 use mathlib.Core.List.{List}
 use Prim.Native.Nat.{ℕ, _≤_, _<_}
-use Rattle.score.specs.declared.Answer.{Answer}
-use Rattle.score.specs.declared.Answer.the-variants.{Report, Refused}
-use Rattle.score.specs.Outcome.{Promise, numberOf}
+use Rattle.answer.specs.declared.Answer.{Answer}
+use Rattle.answer.specs.declared.Answer.the-variants.{Report, Refused}
+use Rattle.finite.specs.Refusals.{leastReport}
+use Rattle.answer.specs.Outcome.{numberOf}
+use Rattle.score.specs.Outcome.{Promise}
 
 -- the buffers before and after the call, and the number returned
 pub record Exported (sheet result resultAfter scratch scratchAfter : List ℕ) (number : ℕ) : Type 0 where
@@ -16,5 +18,5 @@ pub record Exported (sheet result resultAfter scratch scratchAfter : List ℕ) (
   -- the paper's number for it (01, first paragraphs): a refusal's own number, a report's bytes
   pub told : number ≡ numberOf answer
   -- a number below 93, three lines of 31 bytes, is exactly a refusal's
-  pub below : number < 93 → (k : ℕ) × (answer ≡ Refused k)
-  pub above : 93 ≤ number → (b : ℕ) × (answer ≡ Report b)
+  pub below : number < leastReport → (k : ℕ) × (answer ≡ Refused k)
+  pub above : leastReport ≤ number → (b : ℕ) × (answer ≡ Report b)

@@ -3,7 +3,7 @@
 // there by enumerating all settings. First stand 31 worked out by hand, each with the reason that it is there (compare/src/worked.rs): known sheets,
 // networks for each refusal from 6 to 11, settings that tie, components of 8 and of 5. Then 113 from a generator: deep and wide networks, many components,
 // components of 8, n = m = 127, and damaged sheets for every refusal.
-use score::Answer;
+use answer::Answer;
 use test_files::Got;
 ghost use Prim.Native.Nat.{_<_};
 

@@ -178,4 +178,4 @@ module _ (L : NodeLines) where
   -- the three one after the other
   pub shapes-tell : AllTell (shapeRefusals L)
   unfolding shapeRefusals afterEight
-  shapes-tell = one-more (tell 8 (omega arith) reading-8) (λ _. one-more (tell 9 (omega arith) reading-9) (λ _. one-more (tell 10 (omega arith) reading-10) (λ _. no-more)))
+  shapes-tell = one-more (tell 8 (omega arith, omega arith) reading-8) (λ _. one-more (tell 9 (omega arith, omega arith) reading-9) (λ _. one-more (tell 10 (omega arith, omega arith) reading-10) (λ _. no-more)))

@@ -11,14 +11,14 @@ use Rattle.columns.specs.Fields.{sameBytes}
 use Rattle.columns.specs.Writing.{written}
 use Rattle.columns.proofs.Bytes.{same-eq}
 use Rattle.histories.specs.Words.{words}
-use Rattle.score.specs.declared.Answer.{Answer}
-use Rattle.score.specs.declared.Answer.the-variants.{Report, Refused}
+use Rattle.answer.specs.declared.Answer.{Answer}
+use Rattle.answer.specs.declared.Answer.the-variants.{Report, Refused}
 use Rattle.network.specs.inner.Accepted.{NoOthers}
 use Rattle.family.specs.Families.{Contents, familyIn}
 use Rattle.family.specs.Reports.{reportIn}
 use Rattle.score.specs.Contents.{contentsOf}
 use Rattle.score.specs.Refusals.{refusal}
-use Rattle.score.specs.Outcome.{answerBy, resultBy, scratchBy}
+use Rattle.answer.specs.Outcome.{answerBy, resultBy, scratchBy}
 use Rattle.sheet_rows.specs.Rows.{Row, Known}
 use Rattle.score.proofs.Promises.{no-others}
 use Rattle.sheet_rows.proofs.Frozen.{frozenContents, contents-frozen, refusalWith, refusal-is, frozenFamily, family-frozen, frozenReport, report-frozen}
@@ -98,6 +98,7 @@ row-agrees r p =
     subst (λ (k : ℕ). Agrees k (contentsOf (r .sheet)) r (r .answer)) (refusal-is (r .sheet) (r .result) (r .scratch)) (from-agrees _ (contentsOf (r .sheet)) r (r .answer) (no-others (r .sheet)) q)
 
 known : (r : Row) → passes r ≡ true → Known r
+unfolding refusal
 known r p = record {
   outcome = λ d e u t a long ample promise.
       let A = subst (λ (k : ℕ). Agrees k (contentsOf (r .sheet)) r (r .answer)) (sym (ap₂ (refusal (r .sheet)) long ample)) (row-agrees r p) in

@@ -7,7 +7,7 @@ use Prim.Native.String.{String, [] as nil, _∷_ as _◂_}
 use Prim.Native.Char.{code}
 use lib.ListN.{length, drop}
 use Rattle.columns.specs.Writing.{written}
-use Rattle.score.specs.declared.Answer.{Answer}
+use Rattle.answer.specs.declared.Answer.{Answer}
 use Rattle.score.specs.Outcome.{Promise}
 
 -- the bytes of a text

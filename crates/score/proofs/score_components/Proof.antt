@@ -1,6 +1,7 @@
 -- A network that passes 6 to 10 is sound, so its components can be filled; a crowded one is refused by 11.
 -- Assumes nothing.
-use Rattle.score.proofs.Outcomes.{refuses, sound-in}
+use Rattle.answer.proofs.Answers.{refuses}
+use Rattle.score.proofs.Outcomes.{sound-in}
 use Rattle.score.proofs.Refusals.{component-refuses}
 use Rattle.components.proofs.Readings.{verdict-crowded, verdict-uncrowded}
 use Rattle.tables.specs.Columns.{blank}

@@ -4,7 +4,7 @@ use Rattle.network.proofs.Acceptance.{no-others}
 use mathlib.Core.Path.{sym, _∙_}
 use native.Mathlib.Omega.{arith}
 use Rattle.score.proofs.Refusals.{genes-refuse}
-use Rattle.score.proofs.Outcomes.{refuses, reports}
+use Rattle.answer.proofs.Answers.{refuses, reports}
 use borrow.Author.Needs.{needs}
 use Rattle.score.proofs.score_genes.Statement.{statement}
 use Rattle.score.proofs.score_genes.Tie as tie

@@ -1,7 +1,7 @@
 -- A refusal of the network is the first of the curators'; a network without one goes on to its components.
 -- Assumes nothing.
 use Rattle.network.proofs.Acceptance.{no-others}
-use Rattle.score.proofs.Outcomes.{refuses}
+use Rattle.answer.proofs.Answers.{refuses}
 use Rattle.score.proofs.Refusals.{network-refuses}
 use mathlib.Core.Path.{sym, _∙_}
 use borrow.Author.Needs.{needs}

@@ -14,10 +14,10 @@ use Rattle.sheet.specs.Sheets.{headerOf}
 use Rattle.sheet.specs.declared.Headed.the-variants.{Header as accepted}
 use Rattle.family.specs.Buffers.{leastWords, leastBytes}
 use Rattle.family.specs.inner.Stages.{contentsBy, Sized}
-use Rattle.score.specs.declared.Answer.{Answer}
+use Rattle.answer.specs.declared.Answer.{Answer}
 use Rattle.score.specs.Contents.{contentsOf}
 use Rattle.score.specs.Refusals.{curatorRefusals, refusal}
-use Rattle.score.specs.Outcome.{Outcome}
+use Rattle.answer.specs.Outcome.{Outcome}
 
 -- a sheet whose header was accepted, with ample buffers
 pub record Lined (s : List ℕ) (h : Header) (bytes words : ℕ) : Type 0 where

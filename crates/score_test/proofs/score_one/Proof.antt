@@ -1,9 +1,9 @@
--- The report that is written out fits the result, and a refusal's number fits its columns: the promise of the call says so (proofs/Answers of crate score).
+-- The report that is written out fits the result, and a refusal's number fits its columns: the promise of the call says so (proofs/Answers of crate answer).
 -- Assumes nothing.
 use mathlib.Core.Path.{sym}
 use native.Mathlib.Omega.{arith}
 use lib.Seq.{length-take-le}
-use Rattle.score.proofs.Answers.{refused-small, report-fits}
+use Rattle.answer.proofs.Answers.{says-of, report-fits}
 use borrow.Author.Needs.{needs}
 use Rattle.score_test.proofs.score_one.Statement.{statement}
 use Rattle.score_test.proofs.score_one.Tie as tie
@@ -36,7 +36,7 @@ enum-known-answer-2 : tie.Need-enum-known-answer-2
 enum-known-answer-2 c = search needs
 
 show-requires : tie.Need-show-requires
-show-requires c κs = omega (arith, refused-small (c .before .before .before .before .before .score .ensures) (c .before .answer2 .given .1))
+show-requires c κs = omega (arith, says-of (c .before .before .before .before .before .score .ensures) (c .before .answer2 .given .1) .apart)
 
 returns : tie.Need-returns
 returns c = search needs
