@@ -6,3 +6,4 @@ pub mod Readings
 pub mod Writing
 pub mod Turns
 pub mod Answers
+pub mod Numbering

@@ -9,7 +9,7 @@ use native.Mathlib.Numerals.{add-one}
 use lib.ListN.{length}
 use Rattle.finite.specs.Tests.{same}
 use Rattle.finite.proofs.Tests.{is-same, not-same}
-use Rattle.newick.specs.Trees.{Tree, leaf, pair, genes, linesFrom}
+use Rattle.newick.specs.Trees.{Tree, pair, genes, linesFrom}
 use Rattle.newick.specs.Reading.{byteAt, leafAt, Found, nothing, found, leafOf, closed, paired, treeAt, pairAt}
 use Rattle.newick.specs.inner.Steps.{entered, enteredAll, Kept, Outcome}
 use Rattle.newick.specs.declared.Leaf.{Leaf}
@@ -18,7 +18,7 @@ use Rattle.newick.specs.declared.Step.{Step}
 use Rattle.newick.specs.declared.Step.the-variants.{Read, Outside}
 use Rattle.newick.proofs.Places.{inside}
 use Rattle.newick.proofs.Trees.{tree-eq, room, leaf-room}
-use Rattle.newick.proofs.Writing.{kept-same, kept-then, kept-all, entered-two, length-lines}
+use Rattle.newick.proofs.Writing.{kept-same, kept-then, kept-all, entered-two, some-gene, length-lines}
 
 -- what an outcome says of an answer that is known
 pub record Told (f : Found) (met up n : ℕ) (l : List ℕ) (next all : ℕ) (k : List ℕ) : Type 0 where
@@ -51,11 +51,6 @@ pub record Ended (text : List ℕ) (at met next all : ℕ) : Type 0 where
   pub more : met + 1 ≤ all
   pub apart : at + all ≤ next + met
   pub within : next ≤ length text
-
-some-gene : (t : Tree) → 1 ≤ genes t
-unfolding genes
-some-gene (leaf s) = omega arith
-some-gene (pair l r) = omega arith
 
 pub ended : (text : List ℕ) (at met up n : ℕ) (l : List ℕ) (r : Step) (k : List ℕ) (next all : ℕ)
     → Outcome (treeAt text at) met up n l r k → r ≡ Read next all → Ended text at met next all

@@ -100,6 +100,12 @@ entered-two (x ∷ xs) ys l n g =
     let m = entered l n g (x .parent) (x .species) in
     entered-two xs ys m n (suc g) ∙ ap (λ (k : ℕ). enteredAll (enteredAll m n (suc g) xs) n k ys) (omega arith)
 
+-- the genes of a tree
+pub some-gene : (t : Tree) → 1 ≤ genes t
+unfolding genes
+some-gene (leaf s) = omega arith
+some-gene (pair l r) = omega arith
+
 pub length-lines : (t : Tree) (own up : ℕ) → length (linesFrom own up t) ≡ genes t
 unfolding linesFrom genes
 length-lines (leaf s) own up = refl
