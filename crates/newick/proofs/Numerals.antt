@@ -13,7 +13,7 @@ use Rattle.columns.proofs.Columns.{numeral-last, numeral-more, length-numeral}
 use Rattle.newick.specs.Reading.{byteAt, digitFrom, moreAt, leafAt}
 use Rattle.newick.specs.declared.Leaf.the-variants.{Number, Missing}
 use Rattle.newick.proofs.Places.{digit-low, digit-high, digit-yes, front, past-one, opens}
-use Rattle.newick.proofs.Digits.{ten, ten-five}
+use Rattle.newick.proofs.Digits.{ten, ten-five, more-stop}
 
 -- the bound on a numeral's length does not matter
 numeral-room : (k n : ℕ) → 1 ≤ n → n < ten k → numeralIn k n ≡ numeralIn (suc k) n
@@ -132,11 +132,6 @@ unfolding numeral
 numeral-short s = length-numeral 6 s
 
 -- digits that no digit follows are read whole
-more-stop : (text : List ℕ) (k n at : ℕ) → digitFrom 48 (byteAt text at) ≡ false → moreAt text k n at ≡ Number n at
-unfolding moreAt
-more-stop text zero n at d = refl
-more-stop text (suc k) n at d = rw d
-
 more-complete : (ds : List ℕ) (text : List ℕ) (k n at : ℕ) (rest : List ℕ) → Digits ds → length ds ≤ k → drop at text ≡ ds ++ rest
     → digitFrom 48 (getD rest 0 0) ≡ false → moreAt text k n at ≡ Number (value n ds) (at + length ds)
 unfolding Digits value moreAt

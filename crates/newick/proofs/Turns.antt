@@ -81,80 +81,71 @@ module _ (text : List ℕ) (at met up n : ℕ) (l k : List ℕ) (b : ℕ) (be : 
   tree-leaf f s next d q e el = let y : same (byteAt text at) 40 ≡ false = not-same (λ h. d (be ∙ h)) in
       rw (tree-eq text at, y, ← q, e) (refl, rw add-one at el)
 
--- what the pair reader has counted and entered is what its pair asks
-counted : (x y : Tree) (close all some met : ℕ) → some ≡ met + 1 + genes x → all ≡ some + genes y → Read (close + 1) all ≡ Read (suc close) (met + genes (pair x y))
-unfolding genes
-counted x y close all some met e e' =
-    let a : close + 1 ≡ suc close = add-one close in
-    let g : all ≡ met + suc (genes x + genes y) = omega arith in
-    rw (a, g)
-
-lines-two : (x y : Tree) (some : ℕ) (l₁ l₂ l₃ l : List ℕ) (met up n : ℕ) → l₁ ≡ entered l n (met + 1) up 0 → some ≡ met + 1 + genes x
-    → l₂ ≡ enteredAll l₁ n (suc (met + 1)) (linesFrom (suc (met + 1)) (met + 1) x) → l₃ ≡ enteredAll l₂ n (suc some) (linesFrom (suc some) (met + 1) y)
-    → l₃ ≡ enteredAll l n (suc met) (linesFrom (suc met) up (pair x y))
-unfolding linesFrom enteredAll
-lines-two x y some l₁ l₂ l₃ l met up n e₁ e e₂ e₃ =
-    let own = suc met in
-    let a : met + 1 ≡ suc met = add-one met in
-    let c : suc some ≡ suc (suc met) + genes x = omega arith in
-    let l' = entered l n (suc met) up 0 in
-    let xs = linesFrom (suc (suc met)) (suc met) x in
-    let ys = linesFrom (suc (suc met) + genes x) (suc met) y in
-    e₃ ∙ rw (c, e₂, e₁, a) (sym (entered-two xs ys l' n (suc (suc met))
-    ∙ ap (λ (i : ℕ). enteredAll (enteredAll l' n (suc (suc met)) xs) n (suc (suc met) + i) ys) (length-lines x (suc (suc met)) (suc met))))
-
--- the pair reader, whose members have the parent met + 1
-module _ (text : List ℕ) (at met up n : ℕ) (l l₁ l₂ : List ℕ) (r₁ : Step) (e₀ : l₁ ≡ entered l n (met + 1) up 0)
-    (o₁ : Outcome (treeAt text at) (met + 1) (met + 1) n l₁ r₁ l₂) where
+-- the pair reader where it finds no pair, whatever it has entered
+module _ (text : List ℕ) (at met up n : ℕ) (l l₁ l₂ : List ℕ) (own p s m₁ u₁ : ℕ) (r₁ : Step) (e₀ : l₁ ≡ entered l n (own + 1) p s) (o₁ : Outcome (treeAt text at) m₁ u₁ n l₁ r₁ l₂) where
   kept₂ : Kept n l l₂
   unfolding enteredAll
-  kept₂ = kept-then (rw e₀ (kept-all (record { parent = up; species = 0 } ∷ []) l n (met + 1) (omega arith))) (told-kept (met + 1) (met + 1) n l₁ r₁ l₂ (treeAt text at) o₁)
+  kept₂ = kept-then (rw e₀ (kept-all (record { parent = p; species = s } ∷ []) l n (own + 1) (omega arith))) (told-kept m₁ u₁ n l₁ r₁ l₂ (treeAt text at) o₁)
 
   pub pair-no-left : r₁ ≡ Outside → Outcome (pairAt text at) met up n l Outside l₂
   unfolding pairAt paired Outcome
-  pair-no-left e = rw (told-outside (met + 1) (met + 1) n l₁ r₁ l₂ (treeAt text at) o₁ e) (refl, kept₂)
+  pair-no-left e = rw (told-outside m₁ u₁ n l₁ r₁ l₂ (treeAt text at) o₁ e) (refl, kept₂)
 
   module _ (comma some b : ℕ) (e₁ : r₁ ≡ Read comma some) (be : b ≡ byteAt text comma) where
-    left : Told (treeAt text at) (met + 1) (met + 1) n l₁ comma some l₂
-    left = told-read (met + 1) (met + 1) n l₁ r₁ l₂ (treeAt text at) comma some o₁ e₁
+    left : Told (treeAt text at) m₁ u₁ n l₁ comma some l₂
+    left = told-read m₁ u₁ n l₁ r₁ l₂ (treeAt text at) comma some o₁ e₁
 
     pub pair-no-comma : (b ≡ 44 → ⊥) → Outcome (pairAt text at) met up n l Outside l₂
     unfolding pairAt paired Outcome
-    pair-no-comma d =
-        let y : same (byteAt text comma) 44 ≡ false = not-same (λ h. d (be ∙ h)) in
-        rw (left .found-is, y) (refl, kept₂)
+    pair-no-comma d = let y : same (byteAt text comma) 44 ≡ false = not-same (λ h. d (be ∙ h)) in rw (left .found-is, y) (refl, kept₂)
 
-    module _ (l₃ : List ℕ) (r₂ : Step) (is-comma : b ≡ 44) (o₂ : Outcome (treeAt text (comma + 1)) some (met + 1) n l₂ r₂ l₃) where
+    module _ (l₃ : List ℕ) (m₂ u₂ : ℕ) (r₂ : Step) (is-comma : b ≡ 44) (o₂ : Outcome (treeAt text (comma + 1)) m₂ u₂ n l₂ r₂ l₃) where
       kept₃ : Kept n l l₃
-      kept₃ = kept-then kept₂ (told-kept some (met + 1) n l₂ r₂ l₃ (treeAt text (comma + 1)) o₂)
-
-      y : byteAt text comma ≡ 44
-      y = sym be ∙ is-comma
+      kept₃ = kept-then kept₂ (told-kept m₂ u₂ n l₂ r₂ l₃ (treeAt text (comma + 1)) o₂)
 
       pub pair-no-right : r₂ ≡ Outside → Outcome (pairAt text at) met up n l Outside l₃
       unfolding pairAt paired closed Outcome
       pair-no-right e =
-          let z : treeAt text (suc comma) ≡ nothing = rw add-one at (told-outside some (met + 1) n l₂ r₂ l₃ (treeAt text (comma + 1)) o₂ e) in
-          rw (left .found-is, is-same y, z) (refl, kept₃)
+          let z : treeAt text (suc comma) ≡ nothing = rw add-one at (told-outside m₂ u₂ n l₂ r₂ l₃ (treeAt text (comma + 1)) o₂ e) in
+          rw (left .found-is, is-same (sym be ∙ is-comma), z) (refl, kept₃)
 
-      module _ (close all b' : ℕ) (e₂ : r₂ ≡ Read close all) (be' : b' ≡ byteAt text close) where
-        right : Told (treeAt text (comma + 1)) some (met + 1) n l₂ close all l₃
-        right = told-read some (met + 1) n l₂ r₂ l₃ (treeAt text (comma + 1)) close all o₂ e₂
+      pub pair-no-close : (close all b' : ℕ) → r₂ ≡ Read close all → b' ≡ byteAt text close → (b' ≡ 41 → ⊥) → Outcome (pairAt text at) met up n l Outside l₃
+      unfolding pairAt paired closed Outcome
+      pair-no-close close all b' e be' d =
+          let z = told-read m₂ u₂ n l₂ r₂ l₃ (treeAt text (comma + 1)) close all o₂ e .found-is in
+          let y : same (byteAt text close) 41 ≡ false = not-same (λ h. d (be' ∙ h)) in
+          rw (left .found-is, is-same (sym be ∙ is-comma), ← add-one comma, z, y) (refl, kept₃)
 
-        right-is : treeAt text (suc comma) ≡ found (right .tree) close
-        right-is = ap (λ (i : ℕ). treeAt text i) (sym (add-one comma)) ∙ right .found-is
+-- where it finds one: its members have the parent met + 1
+module _ (x y : Tree) (met up n some all close : ℕ) (l l₁ l₂ l₃ : List ℕ) (e : some ≡ met + 1 + genes x) where
+  counted : all ≡ some + genes y → Read (close + 1) all ≡ Read (suc close) (met + genes (pair x y))
+  unfolding genes
+  counted e' =
+      let a : close + 1 ≡ suc close = add-one close in
+      let g : all ≡ met + suc (genes x + genes y) = omega arith in
+      rw (a, g)
 
-        pub pair-no-close : (b' ≡ 41 → ⊥) → Outcome (pairAt text at) met up n l Outside l₃
-        unfolding pairAt paired closed Outcome
-        pair-no-close d =
-            let z : same (byteAt text close) 41 ≡ false = not-same (λ h. d (be' ∙ h)) in
-            rw (left .found-is, is-same y, right-is, z) (refl, kept₃)
+  lines-two : l₁ ≡ entered l n (met + 1) up 0 → l₂ ≡ enteredAll l₁ n (suc (met + 1)) (linesFrom (suc (met + 1)) (met + 1) x)
+      → l₃ ≡ enteredAll l₂ n (suc some) (linesFrom (suc some) (met + 1) y) → l₃ ≡ enteredAll l n (suc met) (linesFrom (suc met) up (pair x y))
+  unfolding linesFrom enteredAll
+  lines-two e₁ e₂ e₃ =
+      let a : met + 1 ≡ suc met = add-one met in
+      let c : suc some ≡ suc (suc met) + genes x = omega arith in
+      let l' = entered l n (suc met) up 0 in
+      let xs = linesFrom (suc (suc met)) (suc met) x in
+      let ys = linesFrom (suc (suc met) + genes x) (suc met) y in
+      e₃ ∙ rw (c, e₂, e₁, a) (sym (entered-two xs ys l' n (suc (suc met))
+      ∙ ap (λ (i : ℕ). enteredAll (enteredAll l' n (suc (suc met)) xs) n (suc (suc met) + i) ys) (length-lines x (suc (suc met)) (suc met))))
 
-        pub pair-read : b' ≡ 41 → Outcome (pairAt text at) met up n l (Read (close + 1) all) l₃
-        unfolding pairAt paired closed Outcome
-        pair-read is-close =
-            let z : byteAt text close ≡ 41 = sym be' ∙ is-close in
-            rw (left .found-is, is-same y, right-is, is-same z) (
-              counted (left .tree) (right .tree) close all some met (left .all-is) (right .all-is),
-              lines-two (left .tree) (right .tree) some l₁ l₂ l₃ l met up n e₀ (left .all-is) (left .lines-are) (right .lines-are),
-            )
+pub pair-read : (text : List ℕ) (at met up n : ℕ) (l l₁ l₂ l₃ : List ℕ) (r₁ r₂ : Step) (comma some b close all b' : ℕ) → l₁ ≡ entered l n (met + 1) up 0
+    → Outcome (treeAt text at) (met + 1) (met + 1) n l₁ r₁ l₂ → r₁ ≡ Read comma some → b ≡ byteAt text comma → b ≡ 44
+    → Outcome (treeAt text (comma + 1)) some (met + 1) n l₂ r₂ l₃ → r₂ ≡ Read close all → b' ≡ byteAt text close → b' ≡ 41
+    → Outcome (pairAt text at) met up n l (Read (close + 1) all) l₃
+unfolding pairAt paired closed Outcome
+pair-read text at met up n l l₁ l₂ l₃ r₁ r₂ comma some b close all b' e₀ o₁ e₁ be is-comma o₂ e₂ be' is-close =
+    let x = told-read (met + 1) (met + 1) n l₁ r₁ l₂ (treeAt text at) comma some o₁ e₁ in
+    let y = told-read some (met + 1) n l₂ r₂ l₃ (treeAt text (comma + 1)) close all o₂ e₂ in
+    rw (x .found-is, is-same (sym be ∙ is-comma), ← add-one comma, y .found-is, is-same (sym be' ∙ is-close)) (
+      counted (x .tree) (y .tree) met up n some all close l l₁ l₂ l₃ (x .all-is) (y .all-is),
+      lines-two (x .tree) (y .tree) met up n some all close l l₁ l₂ l₃ (x .all-is) e₀ (x .lines-are) (y .lines-are),
+    )

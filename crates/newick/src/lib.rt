@@ -4,7 +4,7 @@ use layout::lines::GENE_SPECIES;
 use layout::lines::Lines;
 use text_lines::FIELDS;
 ghost use mathlib.Core.Path.{_≡_};
-ghost use Prim.Native.Nat.{_+_, _≤_, _<_};
+ghost use Prim.Native.Nat.{_+_, _-_, _≤_, _<_};
 ghost use lib.ListN.{length, getD};
 ghost use Rattle.layout.specs.Lines.{cellCount};
 ghost use Rattle.newick.specs.Reading.{leafAt, treeAt, pairAt};
@@ -46,6 +46,14 @@ fn byte(text: &[u8], at: usize) -> u8
     0
 }
 
+// What a digit counts for.
+fn digit(b: u8) -> u32
+    requires { ⌜ 48 ≤ b ⌝ }
+    ensures { λ r. ⌜ r ≡ b - 48 ⌝ }
+{
+    (b - b'0') as u32
+}
+
 // The species number at a place.
 fn numeral(text: &[u8], at: usize) -> Leaf
     ensures { λ r. ⌜ r ≡ leafAt (now (text .entry)) at ⌝ }
@@ -57,7 +65,7 @@ fn numeral(text: &[u8], at: usize) -> Leaf
     if first > b'9' {
         return Leaf::Missing;
     }
-    let mut n = (first - b'0') as u32;
+    let mut n = digit(first);
     let mut next = at + 1;
     let mut i: usize = 0;
     while i < 5 {
@@ -68,7 +76,7 @@ fn numeral(text: &[u8], at: usize) -> Leaf
         if b > b'9' {
             return Leaf::Number(n, next);
         }
-        n = n * 10 + (b - b'0') as u32;
+        n = n * 10 + digit(b);
         next += 1;
         i += 1;
     }

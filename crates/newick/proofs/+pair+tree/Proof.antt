@@ -46,46 +46,36 @@ abbrev tree-claims : ℕ → tree-lts.Claims
 tree-claims t = (byte-reads.Asked, byte-reads.Learnt, pair-below t, pair.Post, numeral-reads.Asked, numeral-reads.Learnt, enter-reads.Asked, enter-reads.Learnt)
 
 module _ (t : ℕ) where
-  -- src/lib.rt:110:15
   pair-add-own : pair-lts.Need-add-own (pair-claims t) (pair-at t) pair.Post
   pair-add-own c = search needs
 
-  -- src/lib.rt:111:5
   pair-enter-requires : pair-lts.Need-enter-requires (pair-claims t) (pair-at t) pair.Post
   pair-enter-requires c κs = search needs
 
-  -- src/lib.rt:112:35
   pair-tree-requires : pair-lts.Need-tree-requires (pair-claims t) (pair-at t) pair.Post
   pair-tree-requires c κs = search needs
 
-  -- src/lib.rt:112:20
   pair-enum-known-comma : pair-lts.Need-enum-known-comma (pair-claims t) (pair-at t) pair.Post
   pair-enum-known-comma c = search needs
 
-  -- src/lib.rt:113:9
   pair-enum-told : pair-lts.Need-enum-told (pair-claims t) (pair-at t) pair.Post
   pair-enum-told c = search needs
 
-  -- src/lib.rt:113:9
   pair-returns : pair-lts.Need-returns (pair-claims t) (pair-at t) pair.Post
   pair-returns c = search (needs, pair-no-left)
 
-  -- src/lib.rt:115:8
   pair-byte-requires : pair-lts.Need-byte-requires (pair-claims t) (pair-at t) pair.Post
   pair-byte-requires c κs = search needs
 
-  -- src/lib.rt:116:9
   pair-returns-2 : pair-lts.Need-returns-2 (pair-claims t) (pair-at t) pair.Post
   pair-returns-2 c = search (needs, pair-no-comma)
 
-  -- src/lib.rt:118:45
   pair-add-tree : pair-lts.Need-add-tree (pair-claims t) (pair-at t) pair.Post
   pair-add-tree c =
       let st = c .before .before .before .before .before .before .before .before .before .before in
       let e = ended (st .args .text .now) (st .args .at) _ _ _ _ _ _ _ _ (c .before .before .before .before .before .tree .ensures) (c .before .before .before .comma .given .1) in
       omega (arith, st .pre .1, e .within)
 
-  -- src/lib.rt:118:34
   pair-tree-requires-2 : pair-lts.Need-tree-requires-2 (pair-claims t) (pair-at t) pair.Post
   pair-tree-requires-2 c κs =
       let st = c .before .before .before .before .before .before .before .before .before .before .before in
@@ -94,53 +84,43 @@ module _ (t : ℕ) where
       let i = inside-byte (st .args .text .now) _ (b .result) 44 (b .ensures) (c .before .if1 .left) (omega arith) in
       (omega (arith, st .pre .0, st .pre .1, e .more, e .apart, i), (search needs, omega (arith, st .pre .1, e .more, e .apart), omega (arith, e .more), search needs))
 
-  -- src/lib.rt:118:20
   pair-enum-known-close : pair-lts.Need-enum-known-close (pair-claims t) (pair-at t) pair.Post
   pair-enum-known-close c = search needs
 
-  -- src/lib.rt:119:9
   pair-enum-told-2 : pair-lts.Need-enum-told-2 (pair-claims t) (pair-at t) pair.Post
   pair-enum-told-2 c = search needs
 
-  -- src/lib.rt:119:9
   pair-returns-3 : pair-lts.Need-returns-3 (pair-claims t) (pair-at t) pair.Post
   pair-returns-3 c = search (needs, pair-no-right)
 
-  -- src/lib.rt:121:8
   pair-byte-requires-2 : pair-lts.Need-byte-requires-2 (pair-claims t) (pair-at t) pair.Post
   pair-byte-requires-2 c κs = search needs
 
-  -- src/lib.rt:122:9
   pair-returns-4 : pair-lts.Need-returns-4 (pair-claims t) (pair-at t) pair.Post
   pair-returns-4 c = search (needs, pair-no-close)
 
-  -- src/lib.rt:124:16
   pair-add-t19 : pair-lts.Need-add-t19 (pair-claims t) (pair-at t) pair.Post
   pair-add-t19 c =
       let st = c .before .before .before .before .before .before .before .before .before .before .before .before .before .before .before .before .before in
       let b = c .before .byte2 in
       omega (arith, st .pre .1, inside-byte (st .args .text .now) _ (b .result) 41 (b .ensures) (c .if2 .left) (omega arith))
 
-  -- src/lib.rt:106:1
   pair-returns-5 : pair-lts.Need-returns-5 (pair-claims t) (pair-at t) pair.Post
   pair-returns-5 c =
       let right = c .before .before .before .before .before in
       let left = right .before .before .before .before .before .before .before in
-      pair-read _ _ _ _ _ _ _ _ _ (left .before .before .enter .ensures) (left .tree .ensures) _ _ _ (c .before .before .before .before .before .before .before .before .before .before .comma .given .1) (c .before .before .before .before .before .before .before .before .byte .ensures) _ _ (c .before .before .before .before .before .before .before .if1 .left) (right .tree2 .ensures)
-      _ _ _ (c .before .before .before .close .given .1) (c .before .byte2 .ensures) (c .if2 .left)
+      pair-read _ _ _ _ _ _ _ _ _ _ _ _ _ _ _ _ _ (left .before .before .enter .ensures) (left .tree .ensures) (c .before .before .before .before .before .before .before .before .before .before .comma .given .1) (c .before .before .before .before .before .before .before .before .byte .ensures) (c .before .before .before .before .before .before .before .if1 .left)
+      (right .tree2 .ensures) (c .before .before .before .close .given .1) (c .before .byte2 .ensures) (c .if2 .left)
 
-  -- src/lib.rt:95:8
   tree-byte-requires : tree-lts.Need-byte-requires (tree-claims t) (tree-at t) tree.Post
   tree-byte-requires c κs = search needs
 
-  -- src/lib.rt:96:27
   tree-add-pair : tree-lts.Need-add-pair (tree-claims t) (tree-at t) tree.Post
   tree-add-pair c =
       let st = c .before .before .before in
       let b = c .before .byte in
       omega (arith, st .pre .1, inside-byte (st .args .text .now) (st .args .at) (b .result) 40 (b .ensures) (c .if1 .taken) (omega arith))
 
-  -- src/lib.rt:96:9
   tree-pair-requires : tree-lts.Need-pair-requires (tree-claims t) (tree-at t) tree.Post
   tree-pair-requires c κs =
       let st = c .before .before .before .before in
@@ -148,45 +128,36 @@ module _ (t : ℕ) where
       let i = inside-byte (st .args .text .now) (st .args .at) (b .result) 40 (b .ensures) (c .before .if1 .taken) (omega arith) in
       (omega (arith, st .pre .0, i), (search needs, omega (arith, st .pre .1), search needs, search needs))
 
-  -- src/lib.rt:96:9
   tree-returns : tree-lts.Need-returns (tree-claims t) (tree-at t) tree.Post
   tree-returns c = search (needs, tree-pair)
 
-  -- src/lib.rt:98:39
   tree-numeral-requires : tree-lts.Need-numeral-requires (tree-claims t) (tree-at t) tree.Post
   tree-numeral-requires c κs = search needs
 
-  -- src/lib.rt:98:22
   tree-enum-known-species : tree-lts.Need-enum-known-species (tree-claims t) (tree-at t) tree.Post
   tree-enum-known-species c = search needs
 
-  -- src/lib.rt:99:9
   tree-enum-told : tree-lts.Need-enum-told (tree-claims t) (tree-at t) tree.Post
   tree-enum-told c = search needs
 
-  -- src/lib.rt:99:9
   tree-returns-2 : tree-lts.Need-returns-2 (tree-claims t) (tree-at t) tree.Post
   tree-returns-2 c = search (needs, tree-none)
 
-  -- src/lib.rt:101:21
   tree-add-enter : tree-lts.Need-add-enter (tree-claims t) (tree-at t) tree.Post
   tree-add-enter c =
       let st = c .before .before .before .before .before .before .before .before in
       let f = c .before .before .before .before .numeral in
       omega (arith, st .pre .1, leaf-inside (st .args .text .now) (st .args .at) (f .result) _ _ (f .ensures) (c .before .before .species .given .1))
 
-  -- src/lib.rt:101:5
   tree-enter-requires : tree-lts.Need-enter-requires (tree-claims t) (tree-at t) tree.Post
   tree-enter-requires c κs = search needs
 
-  -- src/lib.rt:102:22
   tree-add-t16 : tree-lts.Need-add-t16 (tree-claims t) (tree-at t) tree.Post
   tree-add-t16 c =
       let st = c .before .before .before .before .before .before .before .before .before in
       let f = c .before .before .before .before .before .numeral in
       omega (arith, st .pre .1, leaf-inside (st .args .text .now) (st .args .at) (f .result) _ _ (f .ensures) (c .before .before .before .species .given .1))
 
-  -- src/lib.rt:91:1
   tree-returns-3 : tree-lts.Need-returns-3 (tree-claims t) (tree-at t) tree.Post
   tree-returns-3 c = search (needs, tree-leaf)
 

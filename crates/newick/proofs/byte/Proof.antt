@@ -1,20 +1,17 @@
+-- `newick::byte` meets its contract: past the end `getD` gives 0.
+-- Assumes nothing.
 use mathlib.Core.Path.{sym}
 use lib.ListN.{List·getD-eq-default}
 use borrow.Author.Needs.{needs}
 use Rattle.newick.proofs.byte.Statement.{statement}
 use Rattle.newick.proofs.byte.Tie as tie
-use Rattle.newick.proofs.byte.Reads as reads
-use Rattle.newick.proofs.byte.Lts as lts
 
--- src/lib.rt:44:16
 shared-slice-read-result : tie.Need-shared-slice-read-result
 shared-slice-read-result c = search needs
 
--- src/lib.rt:44:9
 returns : tie.Need-returns
 returns c = search needs
 
--- src/lib.rt:40:1
 returns-2 : tie.Need-returns-2
 returns-2 c = sym (List·getD-eq-default (c .before .args .text .now) 0 (c .if1 .left))
 

@@ -1,3 +1,6 @@
+-- `newick::numeral` meets its contract. The invariant: the number made of the digits passed, with 5 - i more to come, is what `leafAt` finds, and it has
+-- i + 1 digits.
+-- Assumes nothing.
 use Prim.Native.Nat.{_-_, _≤_, _<_, suc}
 use mathlib.Core.Path.{_≡_}
 use native.Mathlib.Omega.{arith}
@@ -7,91 +10,68 @@ use Rattle.newick.proofs.Digits.{ten, leaf-less, leaf-more, leaf-first,
 use borrow.Author.Needs.{needs}
 use Rattle.newick.proofs.numeral.Statement.{statement}
 use Rattle.newick.proofs.numeral.Tie as tie
-use Rattle.newick.proofs.numeral.Reads as reads
-use Rattle.newick.proofs.numeral.Lts as lts
-use Rattle.newick.proofs.byte.Reads as byte-reads
 
 abbrev Inv-loop : tie.InvT-loop
 Inv-loop text at first n₀ next₀ i₀ n next i = (i ≤ 5) × (next ≤ length text) × (n < ten (suc i)) × (moreAt text (5 - i) n next ≡ leafAt text at)
 
 abbrev μ-loop : tie.MeasureT-loop
-μ-loop text at first n₀ next₀ i₀ n next i = 5 - i
+μ-loop text at first n₀ next₀ i₀ n next i = 6 - i
 
--- src/lib.rt:53:9
 byte-requires : tie.Need-byte-requires Inv-loop μ-loop
 byte-requires c κs = search needs
 
--- src/lib.rt:55:9
 returns : tie.Need-returns Inv-loop μ-loop
-returns c = search (needs, leaf-less)
+returns c = let a = c .before .before .before .args in leaf-less (a .text .now) (a .at) _ (c .before .byte .ensures) (omega arith)
 
--- src/lib.rt:58:9
 returns-2 : tie.Need-returns-2 Inv-loop μ-loop
 returns-2 c = search (needs, leaf-more)
 
--- src/lib.rt:60:18
-sub-n : tie.Need-sub-n Inv-loop μ-loop
-sub-n c = search needs
+digit-requires : tie.Need-digit-requires Inv-loop μ-loop
+digit-requires c κs = search needs
 
--- src/lib.rt:60:17
-cast-n : tie.Need-cast-n Inv-loop μ-loop
-cast-n c = search needs
-
--- src/lib.rt:61:20
 add-next : tie.Need-add-next Inv-loop μ-loop
-add-next c = let a = c .before .before .before .before .args in omega (arith, inside-digit (a .text .now) (a .at) _ (c .before .before .byte .ensures) (search needs))
+add-next c = let a = c .before .before .before .before .before .args in omega (arith, inside-digit (a .text .now) (a .at) _ (c .before .before .before .byte .ensures) (search needs))
 
--- src/lib.rt:63:5
 loop-holds : tie.Need-loop-holds Inv-loop μ-loop
 unfolding ten
 loop-holds c =
-    let a = c .before .before .before .before .args in
-    (search needs, inside-digit (a .text .now) (a .at) _ (c .before .before .byte .ensures) (search needs), omega arith, search (needs, leaf-first))
+    let a = c .before .before .before .before .before .args in
+    (search needs, inside-digit (a .text .now) (a .at) _ (c .before .before .before .byte .ensures) (search needs), omega arith, search (needs, leaf-first))
 
--- src/lib.rt:64:13
 byte-requires-2 : tie.Need-byte-requires-2 Inv-loop μ-loop
 byte-requires-2 c κs = search needs
 
--- src/lib.rt:66:13
 returns-3 : tie.Need-returns-3 Inv-loop μ-loop
 returns-3 c = search (needs, more-less)
 
--- src/lib.rt:69:13
 returns-4 : tie.Need-returns-4 Inv-loop μ-loop
 returns-4 c = search (needs, more-more)
 
--- src/lib.rt:71:13
 mul-n : tie.Need-mul-n Inv-loop μ-loop
-mul-n c = let l = c .before .before .before .before .loop in omega (arith, small-digits (l .i) (l .n) (search needs) (l .inv .2))
+mul-n c = let l = c .before .before .before .before .loop in omega (arith, small-digits (l .i) (l .n) (l .inv .0) (l .inv .2))
 
--- src/lib.rt:71:22
-cast-n-2 : tie.Need-cast-n-2 Inv-loop μ-loop
-cast-n-2 c = search needs
+digit-requires-2 : tie.Need-digit-requires-2 Inv-loop μ-loop
+digit-requires-2 c κs = search needs
 
--- src/lib.rt:71:13
 add-n : tie.Need-add-n Inv-loop μ-loop
-add-n c = let l = c .before .before .before .before .loop in omega (arith, small-digits (l .i) (l .n) (search needs) (l .inv .2))
+add-n c = let l = c .before .before .before .before .before .loop in omega (arith, small-digits (l .i) (l .n) (l .inv .0) (l .inv .2))
 
--- src/lib.rt:72:9
 add-next-2 : tie.Need-add-next-2 Inv-loop μ-loop
-add-next-2 c = let a = c .before .before .before .before .before .before .before .before .before .args in
-    omega (arith, inside-digit (a .text .now) (c .before .before .before .before .loop .next) _ (c .before .before .byte2 .ensures) (search needs))
+add-next-2 c =
+    let a = c .before .before .before .before .before .before .before .before .before .before .before .args in
+    omega (arith, inside-digit (a .text .now) (c .before .before .before .before .before .loop .next) _ (c .before .before .before .byte2 .ensures) (search needs))
 
--- src/lib.rt:73:9
 add-i : tie.Need-add-i Inv-loop μ-loop
 add-i c = search needs
 
--- src/lib.rt:63:5
 loop-less : tie.Need-loop-less Inv-loop μ-loop
 loop-less c = search needs
 
--- src/lib.rt:63:5
 loop-again : tie.Need-loop-again Inv-loop μ-loop
 loop-again c =
-    let l = c .before .before .before .before .loop in
+    let l = c .before .before .before .before .before .loop in
     (search needs, search (needs, inside-digit), next-digit (l .i) (l .n) _ (l .inv .2) (search needs), search (needs, more-turn))
 
--- src/lib.rt:50:1
 returns-5 : tie.Need-returns-5 Inv-loop μ-loop
 returns-5 c = search (needs, more-end)
 
@@ -104,15 +84,14 @@ numeral-spec =
     byte-requires
     returns
     returns-2
-    sub-n
-    cast-n
+    digit-requires
     add-next
     loop-holds
     byte-requires-2
     returns-3
     returns-4
     mul-n
-    cast-n-2
+    digit-requires-2
     add-n
     add-next-2
     add-i
