@@ -19,7 +19,7 @@ use Rattle.gene_tree.specs.Refusals.{childCount, refusal12, Refusal12}
 use Rattle.gene_tree.specs.Refusals.Refusal12.{first-has-parent, no-parent, parent-not-below, children-amiss}
 use Rattle.gene_tree.proofs.Refusals.{from-12}
 use Rattle.newick.specs.Trees.{Tree, leaf, pair, GeneLine, genes, linesFrom, noLine, lineOf, geneLinesOf}
-use Rattle.newick.specs.Numbering.{Numbered, Describes, a-leaf, a-pair}
+use Rattle.newick.specs.Numbering.{Numbered, PairGene, Describes}
 use Rattle.newick.proofs.Writing.{some-gene, length-lines}
 
 -- exactly two children, counted
@@ -107,11 +107,18 @@ module _ (K : GeneLines) where
       apart-right x k c = ⊎-elim (λ q. inl (omega arith)) (λ q. inr q) (behind x k c)
 
     describes : (t : Tree) (g up : ℕ) → Numbered K g up t → Apart K g (g + genes t) → Describes K g t
-    unfolding Numbered
-    describes (leaf s) g up h a = a-leaf g s (h .0) (h .2) (childless g (leaf-apart g s a))
-    describes (pair l r) g up h a = a-pair g (suc g) (suc g + genes l) l r (h .0) (h .2) (omega (arith, some-gene l))
-        (first-gene l (suc g) g (h .3) .1) (first-gene r (suc g + genes l) g (h .4) .1) (members g up l r h a)
-        (describes l (suc g) g (h .3) (apart-left g up l r h a)) (describes r (suc g + genes l) g (h .4) (apart-right g up l r h a))
+    unfolding Numbered Describes
+    describes (leaf s) g up h a = record { gene = h .0; species-is = h .2; childless = childless g (leaf-apart g s a) }
+    describes (pair l r) g up h a =
+        let members : PairGene K g (suc g) (suc g + genes l) = record {
+          gene = h .0;
+          no-species = h .2;
+          order = omega (arith, some-gene l);
+          left-child = first-gene l (suc g) g (h .3) .1;
+          right-child = first-gene r (suc g + genes l) g (h .4) .1;
+          no-others = members g up l r h a;
+        } in
+        (suc g, suc g + genes l, members, describes l (suc g) g (h .3) (apart-left g up l r h a), describes r (suc g + genes l) g (h .4) (apart-right g up l r h a))
 
     counts : (t : Tree) (g up : ℕ) → Numbered K g up t → Apart K g (g + genes t) → (x : ℕ) → g ≤ x → x < g + genes t → (childCount K x ≡ 0) ⊎ (childCount K x ≡ 2)
     unfolding genes childCount children
@@ -148,6 +155,29 @@ module _ (K : GeneLines) where
         numbers r (suc g + genes l) g (omega arith) (omega arith) (λ i h. ap line (omega arith) ∙ e (suc (genes l + i)) (omega arith)
             ∙ ap (λ (j : ℕ). getD (xs ++ ys) (j + i) noLine) (sym n) ∙ getD-append-add xs ys i noLine),
       )
+
+-- lines describe one tree at most
+module _ (K : GeneLines) where
+  gene-of : (t : Tree) (g : ℕ) → Describes K g t → Gene K g
+  unfolding Describes
+  gene-of (leaf s) g d = d .gene
+  gene-of (pair l r) g d = d .2 .gene
+
+  pub one-described : (t t' : Tree) (g : ℕ) → Describes K g t → Describes K g t' → t ≡ t'
+  unfolding Describes
+  one-described (leaf s) (leaf s') g d d' = ap leaf (sym (d .species-is) ∙ d' .species-is)
+  one-described (leaf s) (pair l r) g d d' = absurd (d .childless (d' .0) (gene-of l (d' .0) (d' .3)) (d' .2 .left-child))
+  one-described (pair l r) (leaf s) g d d' = absurd (d' .childless (d .0) (gene-of l (d .0) (d .3)) (d .2 .left-child))
+  one-described (pair l r) (pair l' r') g d d' =
+      let a' : (d' .0 ≡ d .0) ⊎ (d' .0 ≡ d .1) = d .2 .no-others (d' .0) (gene-of l' (d' .0) (d' .3)) (d' .2 .left-child) in
+      let b' : (d' .1 ≡ d .0) ⊎ (d' .1 ≡ d .1) = d .2 .no-others (d' .1) (gene-of r' (d' .1) (d' .4)) (d' .2 .right-child) in
+      let b = d .2 .order in
+      let c = d' .2 .order in
+      let ea : d' .0 ≡ d .0 = ⊎-elim (λ q. q) (λ q. ⊎-elim (λ z. absurd (omega arith)) (λ z. absurd (omega arith)) b') a' in
+      let eb : d' .1 ≡ d .1 = ⊎-elim (λ q. absurd (omega arith)) (λ q. q) b' in
+      let el : l ≡ l' = one-described l l' (d .0) (d .3) (rw ea at (d' .3)) in
+      let er : r ≡ r' = one-described r r' (d .1) (d .4) (rw eb at (d' .4)) in
+      rw (el, er)
 
 -- the gene lines of a tree
 module _ (t : Tree) where

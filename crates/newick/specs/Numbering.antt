@@ -2,7 +2,7 @@
 -- Assumes nothing.
 use Prim.Native.Nat.{ℕ, suc, _+_, _<_}
 use mathlib.Core.Path.{_≡_}
-use mathlib.Core.Logic.{_⊎_}
+use mathlib.Core.Logic.{_≢_, _⊎_}
 use Rattle.topology.specs.Lines.{GeneLines, Gene}
 use Rattle.newick.specs.Trees.{Tree, leaf, pair, genes}
 
@@ -11,8 +11,22 @@ unfoldable pub Numbered : GeneLines → (g up : ℕ) → Tree → Type 0
 Numbered K g up (leaf s) = Gene K g × (K .parent g ≡ up) × (K .species g ≡ s)
 Numbered K g up (pair l r) = Gene K g × (K .parent g ≡ up) × (K .species g ≡ 0) × Numbered K (suc g) g l × Numbered K (suc g + genes l) g r
 
--- gene g of the lines and what is below it are the tree t: a leaf gene has no child, a pair two, of which the left one comes first
-pub data Describes (K : GeneLines) : (g : ℕ) → Tree → Type 0 where
-  a-leaf : (g s : ℕ) → Gene K g → K .species g ≡ s → ((x : ℕ) → Gene K x → K .parent x ≡ g → ⊥) → Describes K g (leaf s)
-  a-pair : (g a b : ℕ) (l r : Tree) → Gene K g → K .species g ≡ 0 → a < b → K .parent a ≡ g → K .parent b ≡ g
-      → ((x : ℕ) → Gene K x → K .parent x ≡ g → (x ≡ a) ⊎ (x ≡ b)) → Describes K a l → Describes K b r → Describes K g (pair l r)
+-- a leaf gene of species s: no gene has it for a parent
+pub record LeafGene (K : GeneLines) (g s : ℕ) : Type 0 where
+  pub gene : Gene K g
+  pub species-is : K .species g ≡ s
+  pub childless : (x : ℕ) → Gene K x → K .parent x ≢ g
+
+-- a gene with exactly the two children a and b, the first of which is a
+pub record PairGene (K : GeneLines) (g a b : ℕ) : Type 0 where
+  pub gene : Gene K g
+  pub no-species : K .species g ≡ 0
+  pub order : a < b
+  pub left-child : K .parent a ≡ g
+  pub right-child : K .parent b ≡ g
+  pub no-others : (x : ℕ) → Gene K x → K .parent x ≡ g → (x ≡ a) ⊎ (x ≡ b)
+
+-- gene g of the lines and what is below it are the tree t
+unfoldable pub Describes : GeneLines → (g : ℕ) → Tree → Type 0
+Describes K g (leaf s) = LeafGene K g s
+Describes K g (pair l r) = (a : ℕ) × (b : ℕ) × PairGene K g a b × Describes K a l × Describes K b r
