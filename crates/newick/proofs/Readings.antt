@@ -9,7 +9,7 @@ use native.Mathlib.Omega.{arith}
 use lib.ListN.{length, getD, drop, length-append}
 use Rattle.finite.specs.Tests.{same}
 use Rattle.finite.proofs.Tests.{is-same, not-same}
-use Rattle.newick.specs.Trees.{Tree, leaf, pair, spelled, textOf, Proper, genes}
+use Rattle.newick.specs.Trees.{Tree, leaf, pair, spelled, textOf, Proper, HasText, genes}
 use Rattle.newick.specs.Reading.{byteAt, digitFrom, found, leafOf, closed, paired, treeIn, treeAt, pairAt}
 use Rattle.newick.proofs.Places.{digit-low, digit-less, digit-more, front, past, past-one, opens}
 use Rattle.newick.proofs.Trees.{none-found, byTree, tree-eq}
@@ -78,6 +78,9 @@ one-reading t t' ok ok' e =
     let a = reads (textOf t) t ok refl in
     let b = reads (textOf t) t' ok' e in
     cc
+
+pub one-tree : (text : List ℕ) (t t' : Tree) → HasText text t → HasText text t' → t ≡ t'
+one-tree text t t' w w' = one-reading t t' (w .proper) (w' .proper) (sym (w .text-is) ∙ w' .text-is)
 
 -- 574: at most 64 leaves of 6 digits, 63 pairs of 3 bytes and a semicolon
 length-spelled : (t : Tree) → 2 * (length (spelled t) + 3) ≤ 9 * (genes t + 1)

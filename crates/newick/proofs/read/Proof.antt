@@ -39,7 +39,7 @@ returns-4 c = search (needs, answer-longer)
 returns-5 : tie.Need-returns-5
 returns-5 c =
     let b = c .before .before .before in
-    answer-many _ _ _ _ _ (search needs) (b .before .before .before .before .tree .ensures) _ _ (b .before .before .end .given .1) _ (b .byte .ensures) (c .before .before .if2 .left) (c .before .if3 .left) (omega arith)
+    answer-many _ _ _ _ _ (search needs) (b .before .before .before .before .tree .ensures) _ _ _ (b .before .before .end .given .1) (b .byte .ensures) (c .before .before .if2 .left) (c .before .if3 .left) (omega arith)
 
 returns-6 : tie.Need-returns-6
 returns-6 c = search (needs, answer-genes)
