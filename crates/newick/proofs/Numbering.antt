@@ -18,7 +18,7 @@ use Rattle.topology.specs.Lines.{GeneLines, Gene}
 use Rattle.gene_tree.specs.Refusals.{childCount, refusal12, Refusal12}
 use Rattle.gene_tree.specs.Refusals.Refusal12.{first-has-parent, no-parent, parent-not-below, children-amiss}
 use Rattle.gene_tree.proofs.Refusals.{from-12}
-use Rattle.newick.specs.Trees.{Tree, leaf, pair, GeneLine, genes, linesFrom, noLine, lineOf, geneLinesOf}
+use Rattle.newick.specs.Trees.{Tree, leaf, pair, GeneLine, genes, linesFrom, noLine, lineAt, geneLinesOf}
 use Rattle.newick.specs.Numbering.{Numbered, PairGene, Describes}
 use Rattle.newick.proofs.Writing.{some-gene, length-lines}
 
@@ -37,28 +37,28 @@ two-children n parent g a b la ua lb ub d ea eb only =
     let z : suc g ≢ g = λ e. absurd (omega arith) in
     omega (arith, one, rw (is-same ea, at-a, not-same z) at (children-change n a parent f la ua off g))
 
--- no gene from e on has a parent from g to e
+-- no gene from e on has a parent from g to e - 1
 Apart : GeneLines → (g e : ℕ) → Type 0
 Apart K g e = (x : ℕ) → Gene K x → e ≤ x → (K .parent x < g) ⊎ (e ≤ K .parent x)
 
 -- a subtree that is numbered from g on
 module _ (K : GeneLines) where
-  -- of gene x of it: the first one hangs from up, and every other from one before it
-  Hangs : (g up x : ℕ) → Type 0
-  Hangs g up x = ((x ≡ g) × (K .parent x ≡ up)) ⊎ ((g ≤ K .parent x) × (K .parent x < x))
+  -- of gene x of it: the first one has the parent up, and every other has one before it
+  ParentIn : (g up x : ℕ) → Type 0
+  ParentIn g up x = ((x ≡ g) × (K .parent x ≡ up)) ⊎ ((g ≤ K .parent x) × (K .parent x < x))
 
-  member : (g f x : ℕ) → g < f → Hangs f g x → (g ≤ K .parent x) × (K .parent x < x)
-  unfolding Hangs
+  member : (g f x : ℕ) → g < f → ParentIn f g x → (g ≤ K .parent x) × (K .parent x < x)
+  unfolding ParentIn
   member g f x l h = ⊎-elim (λ q. (omega (arith, q .1), omega (arith, q .0, q .1))) (λ q. (omega (arith, q .0), q .1)) h
 
-  hangs : (t : Tree) (g up : ℕ) → Numbered K g up t → (x : ℕ) → g ≤ x → x < g + genes t → Hangs g up x
-  unfolding Numbered genes Hangs
-  hangs (leaf s) g up h x a b = let e : x ≡ g = omega arith in inl (e, rw e (h .1))
-  hangs (pair l r) g up h x a b = byEq x g
+  parent-in : (t : Tree) (g up : ℕ) → Numbered K g up t → (x : ℕ) → g ≤ x → x < g + genes t → ParentIn g up x
+  unfolding Numbered genes ParentIn
+  parent-in (leaf s) g up h x a b = let e : x ≡ g = omega arith in inl (e, rw e (h .1))
+  parent-in (pair l r) g up h x a b = byEq x g
       (λ e. inl (e, rw e (h .1)))
       (λ d. inr (byLess x (suc g + genes l)
-      (λ c. member g (suc g) x (omega arith) (hangs l (suc g) g (h .3) x (omega arith) c))
-      (λ c. member g (suc g + genes l) x (omega arith) (hangs r (suc g + genes l) g (h .4) x c (omega arith)))))
+      (λ c. member g (suc g) x (omega arith) (parent-in l (suc g) g (h .3) x (omega arith) c))
+      (λ c. member g (suc g + genes l) x (omega arith) (parent-in r (suc g + genes l) g (h .4) x c (omega arith)))))
 
   first-gene : (t : Tree) (g up : ℕ) → Numbered K g up t → Gene K g × (K .parent g ≡ up)
   unfolding Numbered
@@ -89,17 +89,17 @@ module _ (K : GeneLines) where
       behind x k c = ⊎-elim (λ q. inl q) (λ q. inr (omega arith)) (a x k (omega arith))
 
       members : (x : ℕ) → Gene K x → K .parent x ≡ g → (x ≡ suc g) ⊎ (x ≡ suc g + genes l)
-      unfolding Hangs
+      unfolding ParentIn
       members x k e = byLess x (suc g) (λ c. absurd (omega (arith, below x k))) (λ c. byLess x (suc g + genes l)
-          (λ d. ⊎-elim (λ q. inl (q .0)) (λ q. absurd (omega (arith, q .0))) (hangs l (suc g) g left-at x c d))
+          (λ d. ⊎-elim (λ q. inl (q .0)) (λ q. absurd (omega (arith, q .0))) (parent-in l (suc g) g left-at x c d))
           (λ d. byLess x (suc g + genes l + genes r)
-          (λ f. ⊎-elim (λ q. inr (q .0)) (λ q. absurd (omega (arith, q .0))) (hangs r (suc g + genes l) g right-at x d f))
+          (λ f. ⊎-elim (λ q. inr (q .0)) (λ q. absurd (omega (arith, q .0))) (parent-in r (suc g + genes l) g right-at x d f))
           (λ f. ⊎-elim (λ q. absurd (omega arith)) (λ q. absurd (omega arith)) (behind x k f))))
 
       apart-left : Apart K (suc g) (suc g + genes l)
-      unfolding Apart Hangs
+      unfolding Apart ParentIn
       apart-left x k c = byLess x (suc g + genes l + genes r)
-          (λ f. ⊎-elim (λ q. inl (omega (arith, q .1))) (λ q. inr (q .0)) (hangs r (suc g + genes l) g right-at x c f))
+          (λ f. ⊎-elim (λ q. inl (omega (arith, q .1))) (λ q. inr (q .0)) (parent-in r (suc g + genes l) g right-at x c f))
           (λ f. ⊎-elim (λ q. inl (omega arith)) (λ q. inr (omega arith)) (behind x k f))
 
       apart-right : Apart K (suc g + genes l) (suc g + genes l + genes r)
@@ -190,15 +190,15 @@ module _ (t : Tree) where
 
   -- "Genes are numbered as met from the left, each pair before its members"
   pub numbered : Numbered K 1 0 t
-  unfolding geneLinesOf lineOf
+  unfolding geneLinesOf lineAt
   numbered = numbers K t 1 0 (omega arith) (omega arith) (λ i h. let z : 1 + i ≡ suc i = omega arith in ap (line K) z)
 
   pub root-parent : K .parent 1 ≡ 0
   root-parent = first-gene K t 1 0 numbered .1
 
   pub parent-below : (g : ℕ) → Gene K g → g ≢ 1 → (1 ≤ K .parent g) × (K .parent g < g)
-  unfolding Hangs
-  parent-below g k d = ⊎-elim (λ q. absurd (d (q .0))) (λ q. q) (hangs K t 1 0 numbered g (k .low) (omega (arith, k .high, count-is)))
+  unfolding ParentIn
+  parent-below g k d = ⊎-elim (λ q. absurd (d (q .0))) (λ q. q) (parent-in K t 1 0 numbered g (k .low) (omega (arith, k .high, count-is)))
 
   below : (g : ℕ) → Gene K g → K .parent g < g
   below g k = byEq g 1 (λ e. rw (e, root-parent) (omega arith)) (λ d. parent-below g k d .1)

@@ -15,7 +15,7 @@ use Rattle.finite.proofs.Tests.{is-under}
 use Rattle.finite.proofs.Tables.{within-in, within-zero, within-out, within-same}
 use Rattle.tables.specs.Columns.{spaced}
 use Rattle.layout.specs.Lines.{nodesIn, genesIn}
-use Rattle.newick.specs.Trees.{Tree, leaf, pair, GeneLine, genes, linesFrom, noLine, lineOf, geneLinesOf}
+use Rattle.newick.specs.Trees.{Tree, leaf, pair, GeneLine, genes, linesFrom, noLine, lineAt, geneLinesOf}
 use Rattle.newick.specs.inner.Steps.{entered, enteredAll, Kept}
 
 -- a gene is entered: every other place keeps what it held
@@ -113,8 +113,8 @@ length-lines (pair l r) own up = rw length-append (omega (arith, length-lines l 
 
 -- the gene lines of a tree, once they are entered: q is one of their fields
 lines-held : (t : Tree) (q : GeneLine → ℕ) (f : ℕ → ℕ) → q noLine ≡ 0 → ((i : ℕ) → i < genes t → f (1 + i) ≡ q (getD (linesFrom 1 0 t) i noLine))
-    → within (genes t) f ≡ (λ g. q (lineOf t g))
-unfolding lineOf
+    → within (genes t) f ≡ (λ g. q (lineAt t g))
+unfolding lineAt
 lines-held t q f z e = fun-ext (λ v. at v)
   where
     at : (v : ℕ) → within (genes t) f v ≡ q (getD (noLine ∷ linesFrom 1 0 t) v noLine)

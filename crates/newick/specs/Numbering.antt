@@ -6,7 +6,7 @@ use mathlib.Core.Logic.{_≢_, _⊎_}
 use Rattle.topology.specs.Lines.{GeneLines, Gene}
 use Rattle.newick.specs.Trees.{Tree, leaf, pair, genes}
 
--- "Genes are numbered as met from the left, each pair before its members": the tree t is numbered from g on and hangs from up
+-- "Genes are numbered as met from the left, each pair before its members": the genes of t are numbered from g on, and the parent of gene g is up
 unfoldable pub Numbered : GeneLines → (g up : ℕ) → Tree → Type 0
 Numbered K g up (leaf s) = Gene K g × (K .parent g ≡ up) × (K .species g ≡ s)
 Numbered K g up (pair l r) = Gene K g × (K .parent g ≡ up) × (K .species g ≡ 0) × Numbered K (suc g) g l × Numbered K (suc g + genes l) g r

@@ -56,9 +56,9 @@ unfoldable pub noLine : GeneLine
 noLine = record { parent = 0; species = 0 }
 
 -- the line of gene g, where gene 1 is the root
-unfoldable pub lineOf : Tree → ℕ → GeneLine
-lineOf t g = getD (noLine ∷ linesFrom 1 0 t) g noLine
+unfoldable pub lineAt : Tree → ℕ → GeneLine
+lineAt t g = getD (noLine ∷ linesFrom 1 0 t) g noLine
 
 -- the gene lines of a sheet that would describe the same tree
 unfoldable pub geneLinesOf : Tree → GeneLines
-geneLinesOf t = record { count = genes t; parent = λ g. lineOf t g .parent; species = λ g. lineOf t g .species }
+geneLinesOf t = record { count = genes t; parent = λ g. lineAt t g .parent; species = λ g. lineAt t g .species }
