@@ -1,7 +1,7 @@
 #!/usr/bin/env python3
-"""Quotations in comments that are not words of the scope paper ("01").
+"""Quotations in comments that are not words of the papers: the scope ("01") and the requests ("02").
 
-    tools/quotations.py PAPER      from the root of the repository
+    tools/quotations.py PAPER..    from the root of the repository
 
 `..` in a quotation stands for words left out.
 """
@@ -14,7 +14,7 @@ def plain(text):
     return re.sub(r"\s+", " ", re.sub(r"[`*]", "", text)).strip().lower()
 
 
-paper = plain(open(sys.argv[1]).read())
+paper = " ".join(plain(open(path).read()) for path in sys.argv[1:])
 for path in sorted(glob.glob("crates/**/*", recursive=True)):
     if not path.endswith((".antt", ".rt")):
         continue

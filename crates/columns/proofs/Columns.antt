@@ -15,15 +15,15 @@ use Rattle.finite.proofs.Cases.{byLess}
 use Rattle.columns.specs.Fields.{numeralIn, numeral, columns, placeValue, columnOf, six}
 
 -- a numeral's last digit, and the digits before it
-numeral-last : (k n : ℕ) → n < 10 → numeralIn (suc k) n ≡ (48 + n) ∷ []
+pub numeral-last : (k n : ℕ) → n < 10 → numeralIn (suc k) n ≡ (48 + n) ∷ []
 unfolding numeralIn
 numeral-last k n l = rw (lt-ltb n 10 l)
 
-numeral-more : (k n : ℕ) → 10 ≤ n → numeralIn (suc k) n ≡ numeralIn k (n / 10) ++ ((48 + n % 10) ∷ [])
+pub numeral-more : (k n : ℕ) → 10 ≤ n → numeralIn (suc k) n ≡ numeralIn k (n / 10) ++ ((48 + n % 10) ∷ [])
 unfolding numeralIn
 numeral-more k n l = rw (le-ltb n 10 l)
 
-length-numeral : (k n : ℕ) → length (numeralIn k n) ≤ k
+pub length-numeral : (k n : ℕ) → length (numeralIn k n) ≤ k
 unfolding numeralIn
 length-numeral zero n = omega arith
 length-numeral (suc k) n = byLess n 10 (λ l. rw (lt-ltb n 10 l) (omega arith))

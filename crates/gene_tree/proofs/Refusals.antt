@@ -68,7 +68,7 @@ module _ (K : GeneLines) where
   unfolding badGeneAt
   gene-told g k h = byBool (badParent g (K .parent g)) (λ p. parent-told g k p) (λ p. count-told g k (or-r (badParent g (K .parent g)) (badCount (childCount K g)) h p))
 
-  from-12 : refusal12 K ≡ true → Refusal12 K
+  pub from-12 : refusal12 K ≡ true → Refusal12 K
   unfolding refusal12
   from-12 h = let r = some-at (K .count) (badGeneAt K) h in gene-told (r .0) (record { low = r .1; high = r .2 }) (r .3)
 

@@ -1,0 +1,9 @@
+pub mod Places
+pub mod Digits
+pub mod Numerals
+pub mod Trees
+pub mod Readings
+pub mod Writing
+pub mod Turns
+pub mod Answers
+pub mod Numbering
