@@ -112,7 +112,7 @@ length-lines (leaf s) own up = refl
 length-lines (pair l r) own up = rw length-append (omega (arith, length-lines l (suc own) own, length-lines r (suc own + genes l) own))
 
 -- the gene lines of a tree, once they are entered: q is one of their fields
-lines-held : (t : Tree) (q : GeneLine → ℕ) (f : ℕ → ℕ) → q noLine ≡ 0 → ((i : ℕ) → i < genes t → f (1 + i) ≡ q (getD (linesFrom 1 0 t) i noLine))
+pub lines-held : (t : Tree) (q : GeneLine → ℕ) (f : ℕ → ℕ) → q noLine ≡ 0 → ((i : ℕ) → i < genes t → f (1 + i) ≡ q (getD (linesFrom 1 0 t) i noLine))
     → within (genes t) f ≡ (λ g. q (lineAt t g))
 unfolding lineAt
 lines-held t q f z e = fun-ext (λ v. at v)

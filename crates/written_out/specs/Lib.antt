@@ -1,0 +1,2 @@
+pub mod WrittenOut
+pub mod inner
