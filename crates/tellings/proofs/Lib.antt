@@ -1,0 +1,4 @@
+pub mod Options
+pub mod Picks
+pub mod Chosen
+pub mod First
