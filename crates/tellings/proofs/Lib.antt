@@ -2,3 +2,9 @@ pub mod Options
 pub mod Picks
 pub mod Chosen
 pub mod First
+pub mod Told
+pub mod Keys
+pub mod Walks
+pub mod Rising
+pub mod Turns
+pub mod Listing

@@ -4,7 +4,7 @@
 use mathlib.Core.Bool.{Bool, cond}
 use mathlib.Core.Option.{Option, none, some}
 use mathlib.Core.List.{List, [], _∷_}
-use Prim.Native.Nat.{ℕ, zero, suc, _+_, _*_, _≤_, min}
+use Prim.Native.Nat.{ℕ, zero, suc, _+_, _*_, min}
 use lib.ListN.{set}
 use Rattle.finite.specs.Tests.{same, under}
 use Rattle.finite.specs.Tables.{at, zeros}
@@ -32,7 +32,7 @@ costByCode F c = cond (same c 2) (F .costs .duplication) (cond (same c 3) (F .co
 
 -- the lowest number of the steps that pass a test, and of `best`: one offer after another
 unfoldable pub offer : Bool → ℕ → ℕ → ℕ
-offer passes k best = cond passes (min k best) best
+offer b k best = cond b (min k best) best
 
 unfoldable pub offers : (Step → Bool) → List Step → ℕ → ℕ
 offers f [] best = best
@@ -78,11 +78,6 @@ settle (pair a b) (goes w) t = t
 unfoldable pub starts : Family → ℕ → List ℕ
 starts F zero = set zeros 1 (chosenStart F)
 starts F (suc x) = let t = starts F x in settle (F .gene (suc x)) (leave F (suc x) (at t (suc x))) t
-
--- the last step of a gene has a code of 01, those before it the codes 4 to 6
-pub data Closed : List Line → Type 0 where
-  last : {v : ℕ} {s : Step} → code s ≤ 3 → Closed (line v s ∷ [])
-  before : {v : ℕ} {s : Step} {l : List Line} → 4 ≤ code s → Closed l → Closed (line v s ∷ l)
 
 -- whoever unfolds this unfolds all of this file
 unfoldable pub open-Walks : Unit {0}
