@@ -8,3 +8,4 @@ pub mod Walks
 pub mod Rising
 pub mod Turns
 pub mod Listing
+pub mod Admitted

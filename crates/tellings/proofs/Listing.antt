@@ -66,9 +66,9 @@ module _ (F : Family) where
   listing-columns f (suc m) e = columns-append (listing F f m) (numbered F (suc m) 0 (f (suc m))) (listing-columns f m (λ x l u. e x l (omega arith))) (e (suc m) (omega arith) (omega arith))
 
   -- the lines of the chosen history keep the promise
-  pub history-shown : Graded F → Limits (F .nodes) (F .genes) (F .costs) → Levels F → Lineage F → (c : ℕ) → overall F ≡ some c → HistoryShown F (historyLines F)
+  pub shown-lines : Graded F → Limits (F .nodes) (F .genes) (F .costs) → Levels F → Lineage F → (c : ℕ) → overall F ≡ some c → HistoryShown F (historyLines F)
   unfolding historyLines word
-  history-shown ok limits levels tree c whole =
+  shown-lines ok limits levels tree c whole =
       let r = shown F ok c whole in
       let e : historyLines F ≡ listing F (steps F (r .0)) (F .genes) = listing-same (chosenSteps F) (steps F (r .0)) (F .genes) (λ x _ _. sym (r .2 x)) in
       record {
