@@ -33,15 +33,20 @@ module _ (F : Family) (ok : Graded F) (c : ℕ) (whole : overall F ≡ some c) w
   unfolding test
   passes v lv uv i e = same-costs (least F 1 v) (overall F) (least-there v lv uv i e ∙ sym whole)
 
+  -- where there is a start, it is a node from which a history is cheapest
+  attains : chosenStart F ≢ 0 → (chosenStart F ≤ F .nodes) × (least F 1 (chosenStart F) ≡ some c)
+  unfolding chosenStart
+  attains d = let r = first-is (F .nodes) (λ v. sameCost (least F 1 v) (overall F)) d in (r .0, costs-same _ _ (r .1) ∙ whole)
+
   pub some-start : chosenStart F ≢ 0
   unfolding chosenStart test
   some-start z = let o = is-overall F ok c whole in
       clash (passes (o .start) (o .start-low) (o .start-high) (o .history) (o .attains)) (first-none (F .nodes) (λ v. sameCost (least F 1 v) (overall F)) z (o .start) (o .start-low) (o .start-high))
 
   pub start-is : (chosenStart F ≤ F .nodes) × (least F 1 (chosenStart F) ≡ some c)
-  unfolding chosenStart
-  start-is = let r = first-is (F .nodes) (λ v. sameCost (least F 1 v) (overall F)) some-start in (r .0, costs-same _ _ (r .1) ∙ whole)
+  start-is = attains some-start
 
+  -- and no lower node is one
   start-first : (v : ℕ) → 1 ≤ v → v ≤ F .nodes → (i : History F 1 v) → cost F i ≡ c → chosenStart F ≤ v
   unfolding chosenStart test
   start-first v lv uv i e = byLess v (chosenStart F) (λ l. clash (passes v lv uv i e) (first-low (F .nodes) (λ v. sameCost (least F 1 v) (overall F)) v lv l)) (λ l. l)

@@ -9,3 +9,4 @@ pub mod Rising
 pub mod Turns
 pub mod Listing
 pub mod Admitted
+pub mod KnownHistories

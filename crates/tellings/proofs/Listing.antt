@@ -19,9 +19,9 @@ use Rattle.tellings.specs.Chosen.{chosenStart, chosenSteps, historyLines
 use Rattle.tellings.specs.Shown.{lineCosts, SixColumns, HistoryShown}
 use Rattle.tellings.specs.inner.Walks.{starts}
 use Rattle.finite.specs.Tables.{at}
-use Rattle.tellings.proofs.Rising.{rising, up-less}
-use Rattle.tellings.proofs.Turns.{closed, ready, fits-columns}
-use Rattle.tellings.proofs.First.{shown}
+use Rattle.tellings.proofs.Rising.{rising, up-less, first-start, sent}
+use Rattle.tellings.proofs.Turns.{way, ready, fits-columns}
+use Rattle.tellings.proofs.First.{shown, only}
 use Rattle.tellings.proofs.Told.{stepsCost, adds-up, few-lines}
 
 costs-append : (l k : List (List ℕ)) → lineCosts (l ++ k) ≡ lineCosts l + lineCosts k
@@ -75,12 +75,21 @@ module _ (F : Family) where
         start = chosenStart F;
         history = r .0;
         tells = e;
-        first = r .3;
+        first-cheapest = r .3;
         lower-first = tree .lower-first;
-        closed = λ x lx ux. rw (r .2 x, rising F ok tree (limits .few-genes) c whole x lx ux)
-            (closed F ok levels x (at (starts F (x - 1)) x) (ready F ok levels tree (limits .few-genes) c whole (x - 1) x (omega arith) lx ux (omega (arith, up-less F ok tree (limits .few-genes) x lx))));
+        start-of = λ x. at (starts F (x - 1)) x;
+        root-start = first-start F ok tree (limits .few-genes);
+        ways = λ x lx ux.
+            let w = way F ok levels x (at (starts F (x - 1)) x) (ready F ok levels tree (limits .few-genes) c whole (x - 1) x (omega arith) lx ux (omega (arith, up-less F ok tree (limits .few-genes) x lx))) in
+            (w .0, w .1, rw (r .2 x, rising F ok tree (limits .few-genes) c whole x lx ux) (w .2), λ a b k. sent F ok tree (limits .few-genes) x a b (w .0) (w .1) lx k (w .3 a b k));
         adds-up = rw whole (ap lineCosts e ∙ listing-costs (steps F (r .0)) (F .genes) ∙ adds-up F ok (omega arith) (limits .some-gene) (r .0) ∙ r .1);
         six-columns = listing-columns (chosenSteps F) (F .genes) (λ x lx ux. rw (rising F ok tree (limits .few-genes) c whole x lx ux)
             (fits-columns F ok levels x (at (starts F (x - 1)) x) limits (omega (arith, limits .few-genes)) (ready F ok levels tree (limits .few-genes) c whole (x - 1) x (omega arith) lx ux (omega (arith, up-less F ok tree (limits .few-genes) x lx)))));
         few = rw (e, listing-length (steps F (r .0)) (F .genes)) (few-lines F ok tree levels limits (r .3 .start-low) (r .3 .start-high) (r .0));
       }
+
+  -- there is one list of lines to write
+  pub shown-once : (l k : List (List ℕ)) → HistoryShown F l → HistoryShown F k → l ≡ k
+  shown-once l k p q =
+      let e = only F (p .start) (q .start) (p .history) (q .history) (p .first-cheapest) (q .first-cheapest) in
+      p .tells ∙ listing-same (steps F (p .history)) (steps F (q .history)) (F .genes) (λ x _ _. e .1 x) ∙ sym (q .tells)

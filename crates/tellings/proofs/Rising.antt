@@ -69,6 +69,17 @@ module _ (F : Family) (ok : Graded F) (tree : Lineage F) (few : F .genes ≤ 127
         rw (k, e) (getD-set-same (set (starts F z) a p) b q 0 (omega arith)),
       )
 
+  -- so a gene's children start where its last step sends them
+  pub sent : (x a b p q : ℕ) → 1 ≤ x → gene x ≡ pair a b → leave F x (at (starts F (x - 1)) x) ≡ splits p q → (at (starts F (a - 1)) a ≡ p) × (at (starts F (b - 1)) b ≡ q)
+  sent zero a b p q l k e = absurd (omega arith)
+  sent (suc z) a b p q l k e =
+      let n : suc z - 1 ≡ z = omega arith in
+      let t = turn z a b p q k (rw n at e) in
+      let la = ok .left-more (suc z) a b k in let lb = ok .right-more (suc z) a b k in (
+        keeps (suc z) (a - 1) a (omega arith) (omega (arith, tree .left-up (suc z) a b k)) ∙ t .0,
+        keeps (suc z) (b - 1) b (omega arith) (omega (arith, tree .right-up (suc z) a b k)) ∙ t .1,
+      )
+
   settled : (y : ℕ) → 1 ≤ y → y ≤ genes → Fits F ok tree T y (T y)
   unfolding Fits
   settled zero ly uy = absurd (omega arith)

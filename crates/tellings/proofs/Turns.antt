@@ -16,10 +16,10 @@ use Rattle.histories.specs.inner.Grades.{Graded}
 use Rattle.reconciliation.specs.Limits.{Limits}
 use Rattle.tellings.specs.inner.Lineages.{Levels}
 use Rattle.tellings.specs.inner.Lineages.{Lineage}
-use Rattle.tellings.specs.Steps.{Step, rests, speciates, duplicates, transfers, losesGoingDown, losesByTransfer, passesFree, code, stepCost, numbered}
+use Rattle.tellings.specs.Steps.{Step, rests, speciates, duplicates, transfers, losesGoingDown, losesByTransfer, passesFree, code, stepCost, first, second, numbered}
 use Rattle.tellings.specs.Chosen.{options, Onward, ends, splits, goes, onward, beyond, total, sameCost, pick, choice}
 use Rattle.tellings.specs.inner.Walks.{walk, leave, starts}
-use Rattle.tellings.specs.Shown.{Closed, last, before, SixColumns}
+use Rattle.tellings.specs.Shown.{Way, last, before, SixColumns}
 use Rattle.tellings.proofs.Keys.{code-low}
 use Rattle.tellings.proofs.Options.{Among, now, then, begun}
 use Rattle.tellings.proofs.Chosen.{Near, To, leads, costs-same, at-cost, chooses, of-move, of-parts}
@@ -47,6 +47,27 @@ coded (transfers p q) = omega arith
 coded (losesGoingDown w) = omega arith
 coded (losesByTransfer w) = omega arith
 coded (passesFree w) = omega arith
+
+-- the nodes that a step sends children to, and the node that it moves on to
+sends : (s : Step) (p q : ℕ) → onward s ≡ splits p q → onward s ≡ splits (first s) (second s)
+unfolding onward first second
+sends rests p q e = absurd (let z : _≡_ {A = ℕ} 0 1 = cc in omega arith)
+sends (speciates a b) p q e = refl
+sends (duplicates v) p q e = refl
+sends (transfers a b) p q e = refl
+sends (losesGoingDown w) p q e = absurd (let z : _≡_ {A = ℕ} 0 1 = cc in omega arith)
+sends (losesByTransfer w) p q e = absurd (let z : _≡_ {A = ℕ} 0 1 = cc in omega arith)
+sends (passesFree w) p q e = absurd (let z : _≡_ {A = ℕ} 0 1 = cc in omega arith)
+
+moves-to : (s : Step) (w : ℕ) → onward s ≡ goes w → first s ≡ w
+unfolding onward first
+moves-to rests w e = absurd (let z : _≡_ {A = ℕ} 0 1 = cc in omega arith)
+moves-to (speciates a b) w e = absurd (let z : _≡_ {A = ℕ} 0 1 = cc in omega arith)
+moves-to (duplicates v) w e = absurd (let z : _≡_ {A = ℕ} 0 1 = cc in omega arith)
+moves-to (transfers a b) w e = absurd (let z : _≡_ {A = ℕ} 0 1 = cc in omega arith)
+moves-to (losesGoingDown x) w e = cc
+moves-to (losesByTransfer x) w e = cc
+moves-to (passesFree x) w e = cc
 
 -- a line of small numbers
 abbrev Fits : Family → (g k v : ℕ) → Step → Type 0
@@ -161,19 +182,24 @@ module _ (F : Family) (ok : Graded F) (plan : Levels F) where
   pub fits-columns : (g v : ℕ) → Limits (F .nodes) (F .genes) (F .costs) → g ≤ 127 → Good g v → SixColumns (numbered F g 0 (walk F g v))
   fits-columns g v lim ug good = fits-in (suc (plan .level v)) g 0 v (omega arith) lim ug (omega (arith, plan .level-high v (good .low) (good .high), lim .few-nodes)) good
 
-  -- its last line has a code of 01, those before it the codes 4 to 6
-  closed-in : (k g v : ℕ) → plan .level v < k → Good g v → Closed (walk F g v)
-  unfolding Coded
-  closed-in zero g v l good = absurd (omega arith)
-  closed-in (suc k) g v l good = by (taken g v good) (λ w. closed-in k g w)
-    where
-      by : Taken g v → ((w : ℕ) → plan .level w < k → Good g w → Closed (walk F g w)) → Closed (walk F g v)
-      by (takes-end s is m o) all = rw (walk-ends F ok g v s is o) (last (rw o at (coded s)))
-      by (takes-parts s is m n o a b) all = rw (walk-splits F ok g v s is o) (last (rw o at (coded s)))
-      by (takes-move s {w} is m o a h) all = rw (walk-goes F ok g v s is o) (before (rw o at (coded s)) (all w (omega arith) a))
+  -- its lines lead on from node to node, and its last one sends the children where it leaves them
+  abbrev Goes : (g v : ℕ) → Type 0
+  Goes g v = (p q : ℕ) × Way v (walk F g v) p q × ((a b : ℕ) → gene g ≡ pair a b → leave F g v ≡ splits p q)
 
-  pub closed : (g v : ℕ) → Good g v → Closed (walk F g v)
-  closed g v good = closed-in (suc (plan .level v)) g v (omega arith) good
+  way-in : (k g v : ℕ) → plan .level v < k → Good g v → Goes g v
+  unfolding Coded
+  way-in zero g v l good = absurd (omega arith)
+  way-in (suc k) g v l good = by (taken g v good) (λ w. way-in k g w)
+    where
+      by : Taken g v → ((w : ℕ) → plan .level w < k → Good g w → Goes g w) → Goes g v
+      by (takes-end s is m o) all = (first s, second s, rw (walk-ends F ok g v s is o) (last (rw o at (coded s))), λ a b n. absurd (pair-goes-on F ok g v a b s n m o))
+      by (takes-parts s {p} {q} is m n o x y) all = (first s, second s, rw (walk-splits F ok g v s is o) (last (rw o at (coded s))), λ a b n. leave-splits F ok g v s is (sends s p q o))
+      by (takes-move s {w} is m o x h) all =
+          let r = all w (omega arith) x in
+          (r .0, r .1, rw (walk-goes F ok g v s is o) (before {p = r .0} {q = r .1} {l = walk F g w} (rw o at (coded s)) (rw (moves-to s w o) (r .2))), λ a b n. leave-goes F ok g v s is o ∙ r .3 a b n)
+
+  pub way : (g v : ℕ) → Good g v → Goes g v
+  way g v good = way-in (suc (plan .level v)) g v (omega arith) good
 
   -- a gene leaves its children where they may start
   abbrev Leaves : (g v a b : ℕ) → Type 0

@@ -6,12 +6,13 @@ use Prim.Native.Nat.{ℕ, _+_, _≤_, _<_}
 use lib.ListN.{getD, length}
 use Rattle.histories.specs.Histories.{pair, Family, History, overall}
 use Rattle.histories.specs.Words.{word}
-use Rattle.tellings.specs.Steps.{Step, code, Line, line, steps, listing, FirstCheapest}
+use Rattle.tellings.specs.Steps.{Step, code, first, second, Line, line, steps, listing, FirstCheapest}
 
--- the last step of a gene has an event code of 01, those before it the codes 4 to 6
-pub data Closed : List Line → Type 0 where
-  last : {v : ℕ} {s : Step} → code s ≤ 3 → Closed (line v s ∷ [])
-  before : {v : ℕ} {s : Step} {l : List Line} → 4 ≤ code s → Closed l → Closed (line v s ∷ l)
+-- the lines of a gene that starts at node v: it moves on by the codes 4 to 6, stands next at the node that it moved to, and comes at last to an event of
+-- 01, which sends its children to p and q
+pub data Way : (v : ℕ) → List Line → (p q : ℕ) → Type 0 where
+  last : {v : ℕ} {s : Step} → code s ≤ 3 → Way v (line v s ∷ []) (first s) (second s)
+  before : {v p q : ℕ} {s : Step} {l : List Line} → 4 ≤ code s → Way (first s) l p q → Way v (line v s ∷ l) p q
 
 -- the costs of lines, their fifth numbers, together
 unfoldable pub lineCosts : List (List ℕ) → ℕ
@@ -30,11 +31,13 @@ pub record HistoryShown (F : Family) (lines : List (List ℕ)) : Type 0 where
   pub history : History F 1 start
   pub tells : lines ≡ listing F (steps F history) (F .genes)
   -- "Among cheapest histories choose .."
-  pub first : FirstCheapest F start history
+  pub first-cheapest : FirstCheapest F start history
   -- "the lower-numbered child gene, then .. the other": a gene's first child is the lower-numbered one
   pub lower-first : (g a b : ℕ) → F .gene g ≡ pair a b → a < b
-  -- each gene comes to an event of 01 and has no line after it
-  pub closed : (x : ℕ) → 1 ≤ x → x ≤ F .genes → Closed (steps F history x)
+  -- gene 1 starts where the history does, every other gene where its parent's last line sends it
+  pub start-of : ℕ → ℕ
+  pub root-start : start-of 1 ≡ start
+  pub ways : (x : ℕ) → 1 ≤ x → x ≤ F .genes → (p q : ℕ) × Way (start-of x) (steps F history x) p q × ((a b : ℕ) → F .gene x ≡ pair a b → (start-of a ≡ p) × (start-of b ≡ q))
   -- "The sum of the lines is the second line's cost"
   pub adds-up : lineCosts lines ≡ word (overall F)
   pub six-columns : SixColumns lines
