@@ -2,21 +2,22 @@
 -- that attains the least cost and goes on with cheapest histories; the chosen step is the same or sooner.
 -- Assumes nothing.
 use mathlib.Core.Path.{_≡_, refl, sym, ap, _∙_}
-use mathlib.Core.Logic.{_⊎_, inl, inr}
-use mathlib.Core.Bool.{Bool, true, false, cond}
+use mathlib.Core.Logic.{inl, inr}
+use mathlib.Core.Bool.{true}
 use mathlib.Core.Option.{none, some}
-use mathlib.Core.List.{List, [], _∷_, _++_}
+use mathlib.Core.List.{List, [], _++_}
 use Prim.Native.Nat.{ℕ, zero, suc, _+_, _-_, _≤_, _<_}
 use native.Mathlib.Omega.{arith}
 use Rattle.finite.specs.Tests.{same}
 use Rattle.finite.proofs.Tests.{is-same, not-same, same-is}
-use Rattle.histories.specs.Histories.{Out, leaf, one, two, mixed, Gene, tip, pair, Family, Cost, Least, attained, nothing, _⊕_, then as added, least, History, cost}
-use Rattle.histories.specs.inner.Grades.{Leads, Graded}
-use Rattle.tellings.specs.Steps.{Step, rests, stepCost, Line, own, steps, Sooner, here, NotAfter, alike, earlier}
-use Rattle.tellings.specs.Chosen.{moves, partings, restings, endings, options, Onward, ends, splits, goes, onward, beyond, total, sameCost, choice, after, follow, chosen}
+use Rattle.histories.specs.Histories.{Gene, tip, pair, Family, Cost, Least, attained, nothing, _⊕_, then as added, least, History, cost}
+use Rattle.histories.specs.inner.Grades.{Graded}
+use Rattle.tellings.specs.Steps.{Step, stepCost, Line, own, steps, Sooner, here, NotAfter, alike, earlier}
+use Rattle.tellings.specs.Chosen.{options, Onward, ends, splits, goes, onward, beyond, total, sameCost, choice, after, follow, chosen}
 use Rattle.histories.proofs.Costs.{reach}
 use Rattle.histories.proofs.Least.{CostedBy, least-sound, is-least}
-use Rattle.tellings.proofs.Options.{Among, Each, each-of, each-both, Made, Makes, Able, make, Rest, finished, parted, gone, Begun, begun}
+use Rattle.tellings.proofs.Leads.{Near, To, leads}
+use Rattle.tellings.proofs.Options.{Among, each-of, Made, Makes, Able, make, Rest, finished, parted, gone, Begun, begun}
 use Rattle.tellings.proofs.Picks.{Upto, Picked, picked, merge, not-after-same}
 
 -- a test on costs
@@ -46,50 +47,6 @@ of-parts x (some d) (some f) c e = (d, f, refl, refl, cc)
 
 module _ (F : Family) where
   open Family F using (out, gene)
-
-  -- where a step leads: to the node itself, or along an arc out
-  module _ (P : ℕ → Type 0) (v : ℕ) where
-    abbrev pub Near : ℕ → Type 0
-    Near p = (p ≡ v) ⊎ P p
-
-    unfoldable pub To : Onward → Type 0
-    To ends = Unit {0}
-    To (splits p q) = Near p × Near q
-    To (goes w) = P w
-
-    to-move : (A : Out) → Leads P A → Each (λ s. To (onward s)) (moves A)
-    unfolding Each To Leads onward moves
-    to-move (leaf t) h = tt
-    to-move (one x) h = (h, tt)
-    to-move (two x y) h = (h .0, (h .1, tt))
-    to-move (mixed x y) h = (h .1, (h .0, tt))
-
-    to-parting : (A : Out) → Leads P A → Each (λ s. To (onward s)) (partings v A)
-    unfolding Each To Leads onward partings
-    to-parting (leaf t) h = tt
-    to-parting (one x) h = tt
-    to-parting (two x y) h = ((inr (h .0), inr (h .1)), ((inr (h .1), inr (h .0)), tt))
-    to-parting (mixed x y) h = ((inl refl, inr (h .1)), ((inr (h .1), inl refl), ((inr (h .0), inr (h .1)), ((inr (h .1), inr (h .0)), tt))))
-
-    to-resting : (s : ℕ) (A : Out) → Each (λ s. To (onward s)) (restings s A)
-    unfolding Each To onward restings
-    to-resting s (leaf t) = at (same s t)
-      where
-        at : (q : Bool) → Each (λ s. To (onward s)) (cond q (rests ∷ []) [])
-        at true = (tt, tt)
-        at false = tt
-    to-resting s (one x) = tt
-    to-resting s (two x y) = tt
-    to-resting s (mixed x y) = tt
-
-    to-ending : (K : Gene) (A : Out) → Leads P A → Each (λ s. To (onward s)) (endings K v A)
-    unfolding Each To onward endings
-    to-ending (tip s) A h = to-resting s A
-    to-ending (pair a b) A h = ((inl refl, inl refl), to-parting A h)
-
-    pub leads : (g : ℕ) {s : Step} → Leads P (out v) → Among s (options F g v) → To (onward s)
-    unfolding options
-    leads g h m = each-of (λ s. To (onward s)) (each-both (λ s. To (onward s)) (endings (gene g) v (out v)) (moves (out v)) (to-ending (gene g) (out v) h) (to-move (out v) h)) m
 
   -- histories for what follows make one
   module _ (g v : ℕ) (s : Step) (m : Among s (options F g v)) where
@@ -160,16 +117,16 @@ module _ (F : Family) where
     module _ (g v : ℕ) (s : Step) (m : Among s (options F g v)) where
       pub lower-move : {w : ℕ} → onward s ≡ goes w → depth g w < depth g v
       unfolding To
-      lower-move {w} o = let h : height w < height v = rw o at (leads (λ x. height x < height v) v g (ok .falls v) m) in omega arith
+      lower-move {w} o = let h : height w < height v = rw o at (leads F (λ x. height x < height v) v g (ok .falls v) m) in omega arith
 
-      near : (p : ℕ) → Near (λ x. height x < height v) v p → height p ≤ height v
+      near : (p : ℕ) → Near F (λ x. height x < height v) v p → height p ≤ height v
       near p (inl e) = rw e (omega arith)
       near p (inr l) = omega arith
 
       pub lower-parts : {a b p q : ℕ} → gene g ≡ pair a b → onward s ≡ splits p q → (depth a p < depth g v) × (depth b q < depth g v)
       unfolding To
       lower-parts {a} {b} {p} {q} k o =
-          let h : Near (λ x. height x < height v) v p × Near (λ x. height x < height v) v q = rw o at (leads (λ x. height x < height v) v g (ok .falls v) m) in
+          let h : Near F (λ x. height x < height v) v p × Near F (λ x. height x < height v) v q = rw o at (leads F (λ x. height x < height v) v g (ok .falls v) m) in
           let l = near p (h .0) in
           let r = near q (h .1) in
           let la = ok .left-more g a b k in let lb = ok .right-more g a b k in let ia = ok .left-in g a b k in let ib = ok .right-in g a b k in

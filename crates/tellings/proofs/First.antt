@@ -1,4 +1,6 @@
--- The chosen history is the first of all cheapest histories of gene 1, and it is the only one.
+-- The chosen history is the first of all cheapest histories of gene 1: its start is the lowest node from which the least cost over all nodes is
+-- attained, and from there no cheapest history comes before it. Two such histories have the same start and the same lines, for neither comes before the
+-- other.
 -- Assumes nothing.
 use mathlib.Core.Path.{_≡_, refl, sym, ap, _∙_, subst}
 use mathlib.Core.Logic.{_≢_}

@@ -20,7 +20,7 @@ use Rattle.histories.specs.Words.{noHistory, word}
 use Rattle.tellings.specs.Chosen.{options, total, sameCost, choice, onward, sooner, soonest, pick}
 use Rattle.tellings.specs.inner.Walks.{onwardBy, costByCode, key, noKey, keyed, offer, offers}
 use Rattle.tellings.proofs.Options.{Among, now, then, Each, each-of}
-use Rattle.tellings.proofs.Chosen.{Near, To, leads}
+use Rattle.tellings.proofs.Leads.{Near, To, Lower, leads-lower, near-node}
 use Rattle.tellings.proofs.Picks.{Upto, decide, sound}
 
 -- the nodes of a step have numbers below 128
@@ -99,14 +99,10 @@ module _ (s : Step) (l : Low s) where
 
 -- the steps open at a node lead to nodes
 module _ (F : Family) (limits : Limits (F .nodes) (F .genes) (F .costs)) (plan : Levels F) (v : ℕ) (lv : 1 ≤ v) (uv : v ≤ F .nodes) where
-  abbrev Under : ℕ → Type 0
-  Under x = (1 ≤ x) × (x ≤ F .nodes) × (plan .level x < plan .level v)
+  near-low : (p : ℕ) → Near F (Lower F plan v lv uv) v p → p < 128
+  near-low p h = omega (arith, near-node F plan v lv uv p h, limits .few-nodes)
 
-  near-low : (p : ℕ) → Near F Under v p → p < 128
-  near-low p (inl e) = omega (arith, limits .few-nodes)
-  near-low p (inr h) = omega (arith, limits .few-nodes)
-
-  low-of : (s : Step) → To F Under v (onward s) → Low s
+  low-of : (s : Step) → To F (Lower F plan v lv uv) v (onward s) → Low s
   unfolding To onward first second
   low-of rests h = record { first-low = omega arith; second-low = omega arith }
   low-of (speciates p q) h = record { first-low = near-low p (h .0); second-low = near-low q (h .1) }
@@ -117,7 +113,7 @@ module _ (F : Family) (limits : Limits (F .nodes) (F .genes) (F .costs)) (plan :
   low-of (passesFree w) h = record { first-low = near-low w (inr h); second-low = omega arith }
 
   pub low-options : (g : ℕ) → Each Low (options F g v)
-  low-options g = each-from Low (options F g v) (λ s m. low-of s (leads F Under v g (plan .lower v lv uv) m))
+  low-options g = each-from Low (options F g v) (λ s m. low-of s (leads-lower F plan v lv uv g m))
 
   low-keyed : (o : Option Step) → ((u : Step) → o ≡ some u → Low u) → min noKey (keyed o) ≡ keyed o
   unfolding keyed

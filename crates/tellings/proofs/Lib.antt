@@ -1,5 +1,6 @@
 pub mod Options
 pub mod Picks
+pub mod Leads
 pub mod Chosen
 pub mod First
 pub mod Told

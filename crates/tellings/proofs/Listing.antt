@@ -1,4 +1,5 @@
--- The lines of steps: how many they are and what they cost together. The history's lines keep the promise.
+-- The lines of a listing cost what the genes' steps cost, summed gene by gene, and are as many. So the lines of the chosen history are those to write,
+-- and no other lines are.
 -- Assumes nothing.
 use mathlib.Core.Path.{_≡_, refl, sym, ap, _∙_}
 use mathlib.Core.Option.{some}

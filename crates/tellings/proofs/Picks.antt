@@ -1,4 +1,5 @@
--- The first of the steps that pass a test, and what one list of steps ahead of another says of the whole order.
+-- Of any two steps one is the other or comes before it, so the step picked from a list is the first of those that pass. Where two pairs of tellings are
+-- put together, the first difference lies in one of the pairs, so the order holds of the whole.
 -- Assumes nothing.
 use mathlib.Core.Path.{_≡_, refl, sym, _∙_}
 use mathlib.Core.Logic.{_⊎_, inl, inr}

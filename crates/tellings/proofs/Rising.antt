@@ -1,4 +1,5 @@
--- The table of starts, filled genes rising, has each gene's start when its turn comes, and keeps it.
+-- A parent has a lower number than its children, so the table of starts, filled genes rising, has each gene's start when its turn comes, and keeps it.
+-- The walks from these starts are the lines of the chosen history.
 -- Assumes nothing.
 use mathlib.Core.Path.{_≡_, refl, sym, ap, _∙_}
 use mathlib.Core.Logic.{_≢_}

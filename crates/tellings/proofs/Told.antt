@@ -1,7 +1,8 @@
--- The lines of a history: their costs add up to the history's, and a gene has at most one for each node.
+-- Each step is one gene's, so the costs of all genes' steps add up to the history's cost. A gene's steps lead to ever lower levels, and the genes below
+-- two children are apart, so a gene has at most one step for each node.
 -- Assumes nothing.
 use mathlib.Core.Path.{_≡_, refl, sym, ap, _∙_}
-use mathlib.Core.Logic.{_≢_, inl, inr}
+use mathlib.Core.Logic.{_≢_}
 use mathlib.Core.Bool.{Bool, true, false}
 use mathlib.Core.List.{List, [], _∷_, _++_}
 use Prim.Native.Nat.{ℕ, zero, suc, _+_, _≤_, _<_}
@@ -22,8 +23,9 @@ use Rattle.tellings.specs.Steps.{Step, stepCost, Line, line, own, steps}
 use Rattle.tellings.specs.Chosen.{options, onward}
 use Rattle.tellings.specs.inner.Lineages.{Lineage}
 use Rattle.histories.proofs.Sizes.{siblings}
+use Rattle.tellings.proofs.Leads.{Near, To, Lower, leads-lower, near-node}
 use Rattle.tellings.proofs.Options.{Among, Rest, finished, parted, gone, begun}
-use Rattle.tellings.proofs.Chosen.{Near, To, leads, depth, lower-move, lower-parts, none-below}
+use Rattle.tellings.proofs.Chosen.{depth, lower-move, lower-parts, none-below}
 
 -- what the steps of a gene cost together
 unfoldable pub stepsCost : Family → List Line → ℕ
@@ -125,14 +127,6 @@ module _ (F : Family) (ok : Graded F) (tree : Lineage F) where
   outside {g} {v} j x n = none-outside (suc (depth F ok g v)) x g v (omega arith) j n
 
   module _ (plan : Levels F) where
-    -- x is a node below v
-    abbrev Lower : ℕ → ℕ → Type 0
-    Lower v x = (1 ≤ x) × (x ≤ nodes) × (plan .level x < plan .level v)
-
-    near-node : (v p : ℕ) → 1 ≤ v → v ≤ nodes → Near F (Lower v) v p → (1 ≤ p) × (p ≤ nodes)
-    near-node v p lv uv (inl e) = (omega arith, omega arith)
-    near-node v p lv uv (inr h) = (h .0, h .1)
-
     -- the steps of g itself are at most its node's level, those of any gene at most the nodes
     abbrev Few : (g v : ℕ) → (ℕ → List Line) → Type 0
     Few g v f = (length (f g) ≤ plan .level v) × ((x : ℕ) → length (f x) ≤ nodes)
@@ -144,8 +138,8 @@ module _ (F : Family) (ok : Graded F) (tree : Lineage F) where
       rest-few (parted {a} {b} {p} {q} r o h i _ e) =
           let d = lower-parts F ok g v s m r o in
           let la = ok .left-more g a b r in let lb = ok .right-more g a b r in
-          let t : Near F (Lower v) v p × Near F (Lower v) v q = rw o at (leads F (Lower v) v g (plan .lower v lv uv) m) in
-          let np = near-node v p lv uv (t .0) in let nq = near-node v q lv uv (t .1) in
+          let t : Near F (Lower F plan v lv uv) v p × Near F (Lower F plan v lv uv) v q = rw o at (leads-lower F plan v lv uv g m) in
+          let np = near-node F plan v lv uv p (t .0) in let nq = near-node F plan v lv uv q (t .1) in
           let fh = all a p (omega arith) (np .0) (np .1) h in
           let fi = all b q (omega arith) (nq .0) (nq .1) i in (
             rw (e g, none-below F ok (suc k) g a p (omega arith) h la, none-below F ok (suc k) g b q (omega arith) i lb) (plan .level-low v lv uv),
@@ -155,7 +149,7 @@ module _ (F : Family) (ok : Graded F) (tree : Lineage F) where
           )
       rest-few (gone {w} o h _ e) =
           let d = lower-move F ok g v s m o in
-          let t : Lower v w = rw o at (leads F (Lower v) v g (plan .lower v lv uv) m) in
+          let t : Lower F plan v lv uv w = rw o at (leads-lower F plan v lv uv g m) in
           let f = all g w (omega arith) (t .0) (t .1) h in
           (rw (e g) (omega arith), λ x d. rw (e x) (f .1 x))
 
