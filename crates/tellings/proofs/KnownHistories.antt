@@ -1,4 +1,4 @@
--- The history chosen for the family K of 01, and for its family with the pair first (case 4) at the costs of K and at no costs, computed by the checker:
+-- The history chosen for sheet K of 01, and for case 4 at its own costs and at no costs, computed by the checker:
 -- the lines are those that an enumeration of all histories gives.
 -- Assumes nothing.
 use mathlib.Core.Path.{_≡_, refl}

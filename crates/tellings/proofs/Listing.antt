@@ -17,7 +17,7 @@ use Rattle.tellings.specs.inner.Lineages.{Lineage}
 use Rattle.histories.specs.Words.{word}
 use Rattle.tellings.specs.Steps.{Line, line, steps, numbered, listing}
 use Rattle.tellings.specs.Chosen.{chosenStart, chosenSteps, historyLines}
-use Rattle.tellings.specs.Shown.{lineCosts, SixColumns, HistoryShown}
+use Rattle.tellings.specs.Shown.{lineCosts, LinesFit, HistoryShown}
 use Rattle.tellings.specs.inner.Walks.{starts}
 use Rattle.finite.specs.Tables.{at}
 use Rattle.tellings.proofs.Rising.{rising, up-less, first-start, sent}
@@ -56,13 +56,13 @@ module _ (F : Family) where
   listing-same f k zero e = refl
   listing-same f k (suc m) e = rw (listing-same f k m (λ x l u. e x l (omega arith)), e (suc m) (omega arith) (omega arith))
 
-  columns-append : (l k : List (List ℕ)) → SixColumns l → SixColumns k → SixColumns (l ++ k)
-  unfolding SixColumns
+  columns-append : (l k : List (List ℕ)) → LinesFit l → LinesFit k → LinesFit (l ++ k)
+  unfolding LinesFit
   columns-append [] k a b = b
   columns-append (r ∷ l) k a b = (a .0, columns-append l k (a .1) b)
 
-  listing-columns : (f : ℕ → List Line) (m : ℕ) → ((x : ℕ) → 1 ≤ x → x ≤ m → SixColumns (numbered F x 0 (f x))) → SixColumns (listing F f m)
-  unfolding listing SixColumns
+  listing-columns : (f : ℕ → List Line) (m : ℕ) → ((x : ℕ) → 1 ≤ x → x ≤ m → LinesFit (numbered F x 0 (f x))) → LinesFit (listing F f m)
+  unfolding listing LinesFit
   listing-columns f zero e = tt
   listing-columns f (suc m) e = columns-append (listing F f m) (numbered F (suc m) 0 (f (suc m))) (listing-columns f m (λ x l u. e x l (omega arith))) (e (suc m) (omega arith) (omega arith))
 

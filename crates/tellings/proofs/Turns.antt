@@ -19,7 +19,7 @@ use Rattle.tellings.specs.inner.Lineages.{Lineage}
 use Rattle.tellings.specs.Steps.{Step, rests, speciates, duplicates, transfers, losesGoingDown, losesByTransfer, passesFree, code, stepCost, first, second, numbered}
 use Rattle.tellings.specs.Chosen.{options, Onward, ends, splits, goes, onward, beyond, total, sameCost, pick, choice}
 use Rattle.tellings.specs.inner.Walks.{walk, leave, starts}
-use Rattle.tellings.specs.Shown.{Way, last, before, SixColumns}
+use Rattle.tellings.specs.Shown.{Way, last, before, LinesFit}
 use Rattle.tellings.proofs.Keys.{code-low}
 use Rattle.tellings.proofs.Leads.{To, Lower, leads-lower, near-node}
 use Rattle.tellings.proofs.Options.{Among, now, then, begun}
@@ -160,20 +160,20 @@ module _ (F : Family) (ok : Graded F) (plan : Levels F) where
   walk-length g v good = omega (arith, walk-short (suc (plan .level v)) g v (omega arith) good, plan .level-high v (good .low) (good .high))
 
   -- its lines, numbered from k + 1, fit six columns
-  fits-in : (r g k v : ℕ) → plan .level v < r → Limits (F .nodes) (F .genes) (F .costs) → g ≤ 127 → k + plan .level v ≤ 254 → MayStart g v → SixColumns (numbered F g k (walk F g v))
-  unfolding numbered SixColumns
+  fits-in : (r g k v : ℕ) → plan .level v < r → Limits (F .nodes) (F .genes) (F .costs) → g ≤ 127 → k + plan .level v ≤ 254 → MayStart g v → LinesFit (numbered F g k (walk F g v))
+  unfolding numbered LinesFit
   fits-in zero g k v l lim ug uk good = absurd (omega arith)
   fits-in (suc r) g k v l lim ug uk good = by (taken g v good) (λ w. fits-in r g (suc k) w)
     where
       this : (s : Step) → Fits F g k v s
       this s = fits F lim g k v s ug (omega arith) (omega (arith, good .high, lim .few-nodes))
 
-      by : Taken g v → ((w : ℕ) → plan .level w < r → Limits (F .nodes) (F .genes) (F .costs) → g ≤ 127 → suc k + plan .level w ≤ 254 → MayStart g w → SixColumns (numbered F g (suc k) (walk F g w))) → SixColumns (numbered F g k (walk F g v))
+      by : Taken g v → ((w : ℕ) → plan .level w < r → Limits (F .nodes) (F .genes) (F .costs) → g ≤ 127 → suc k + plan .level w ≤ 254 → MayStart g w → LinesFit (numbered F g (suc k) (walk F g w))) → LinesFit (numbered F g k (walk F g v))
       by (takes-end s is m o) all = rw (walk-ends F ok g v s is o) (this s, tt)
       by (takes-parts s is m n o a b) all = rw (walk-splits F ok g v s is o) (this s, tt)
       by (takes-move s {w} is m o a h) all = rw (walk-goes F ok g v s is o) (this s, all w (omega arith) lim ug (omega arith) a)
 
-  pub fits-columns : (g v : ℕ) → Limits (F .nodes) (F .genes) (F .costs) → g ≤ 127 → MayStart g v → SixColumns (numbered F g 0 (walk F g v))
+  pub fits-columns : (g v : ℕ) → Limits (F .nodes) (F .genes) (F .costs) → g ≤ 127 → MayStart g v → LinesFit (numbered F g 0 (walk F g v))
   fits-columns g v lim ug good = fits-in (suc (plan .level v)) g 0 v (omega arith) lim ug (omega (arith, plan .level-high v (good .low) (good .high), lim .few-nodes)) good
 
   -- its lines lead on from node to node, and its last one sends the children where it leaves them

@@ -16,25 +16,26 @@ moves (one x) = passesFree x ∷ []
 moves (two x y) = losesGoingDown x ∷ losesGoingDown y ∷ []
 moves (mixed x y) = losesByTransfer y ∷ passesFree x ∷ []
 
--- or its children part
+-- or its children part, one down each principal arc or one along the secondary arc
 unfoldable pub partings : ℕ → Out → List Step
 partings v (leaf t) = []
 partings v (one x) = []
 partings v (two x y) = speciates x y ∷ speciates y x ∷ []
 partings v (mixed x y) = transfers v y ∷ transfers y v ∷ transfers x y ∷ transfers y x ∷ []
 
--- or it rests
+-- or, a leaf gene of species s, it rests
 unfoldable pub restings : ℕ → Out → List Step
 restings s (leaf t) = cond (same s t) (rests ∷ []) []
 restings s (one x) = []
 restings s (two x y) = []
 restings s (mixed x y) = []
 
--- or it duplicates
+-- the steps that end at v: a leaf gene may rest, a gene with two children duplicate, or they part
 unfoldable pub endings : Gene → ℕ → Out → List Step
 endings (tip s) v o = restings s o
 endings (pair a b) v o = duplicates v ∷ partings v o
 
+-- all of them, for gene g at node v
 unfoldable pub options : Family → (g v : ℕ) → List Step
 options F g v = endings (F .gene g) v (F .out v) ++ moves (F .out v)
 

@@ -20,9 +20,9 @@ lineCosts [] = 0
 lineCosts (r ∷ l) = getD r 4 0 + lineCosts l
 
 -- every number of the lines fits six columns
-unfoldable pub SixColumns : List (List ℕ) → Type 0
-SixColumns [] = Unit {0}
-SixColumns (r ∷ l) = ((i : ℕ) → getD r i 0 < 1000000) × SixColumns l
+unfoldable pub LinesFit : List (List ℕ) → Type 0
+LinesFit [] = Unit {0}
+LinesFit (r ∷ l) = ((i : ℕ) → getD r i 0 < 1000000) × LinesFit l
 
 -- these are the lines of the history to write
 pub record HistoryShown (F : Family) (lines : List (List ℕ)) : Type 0 where
@@ -40,11 +40,11 @@ pub record HistoryShown (F : Family) (lines : List (List ℕ)) : Type 0 where
   pub ways : (x : ℕ) → 1 ≤ x → x ≤ F .genes → (p q : ℕ) × Way (start-of x) (steps F history x) p q × ((a b : ℕ) → F .gene x ≡ pair a b → (start-of a ≡ p) × (start-of b ≡ q))
   -- "The sum of the lines is the second line's cost"
   pub adds-up : lineCosts lines ≡ word (overall F)
-  pub six-columns : SixColumns lines
+  pub six-columns : LinesFit lines
   -- 5,952 bytes of report and 31 bytes a line are at most 505,951: "a separate call whose result holds at least 600,000 bytes"
   pub few : length lines ≤ 16129
 
 -- whoever unfolds this unfolds all of this file
 unfoldable pub open-Shown : Unit {0}
-unfolding lineCosts SixColumns
+unfolding lineCosts LinesFit
 open-Shown = tt

@@ -1,5 +1,5 @@
--- The chosen history gene by gene, genes rising: a table holds where each gene starts; a gene walks to its last step, which says where its children
--- start. A parent has a lower number, so the table knows each gene's start in time.
+-- The chosen history as loops write it (02, (ii), "for each gene, rising"): a table holds where each gene starts, and a gene's own steps, its walk, lead to
+-- its last, which says where its children start. A parent has a lower number, so the table has each gene's start in time.
 -- Assumes nothing.
 use mathlib.Core.Bool.{Bool, cond}
 use mathlib.Core.Option.{Option, none, some}
@@ -44,6 +44,7 @@ unlessGone e f ends = e ends
 unlessGone e f (splits p q) = e (splits p q)
 unlessGone e f (goes w) = f w
 
+-- the line of a step, and those from where the gene moves on to; and what follows the last of them
 unfoldable pub lineThen : (ℕ → List Line) → ℕ → Option Step → List Line
 lineThen f v none = []
 lineThen f v (some s) = line v s ∷ unlessGone (λ o. []) f (onward s)
