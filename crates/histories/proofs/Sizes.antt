@@ -29,7 +29,7 @@ module _ (up : ℕ → ℕ) (f : Falls number up) where
       (λ _ p₂. over-cases number up f b x q (λ e. inl (rw e p)) (λ _ q₂. ih (up x) (f .fall x n) p₂ q₂)))
 
   -- the genes below two children of one gene are apart
-  siblings : (g a b : ℕ) → a ≢ 0 → b ≢ 0 → a ≢ b → up a ≡ g → up b ≡ g → (u : ℕ) → over number up a u ≡ true → over number up b u ≡ false
+  pub siblings : (g a b : ℕ) → a ≢ 0 → b ≢ 0 → a ≢ b → up a ≡ g → up b ≡ g → (u : ℕ) → over number up a u ≡ true → over number up b u ≡ false
   siblings g a b na nb d ea eb u p = byBool (over number up b u) (λ q. absurd (⊎-elim (λ r. no a b g na d ea eb r) (λ r. no b a g nb (λ e. d (sym e)) eb ea r) (chain a b na u p q))) (λ q. q)
     where
       no : (a b g : ℕ) → a ≢ 0 → a ≢ b → up a ≡ g → up b ≡ g → over number up a b ≡ true → ⊥
@@ -41,7 +41,7 @@ module _ (up : ℕ → ℕ) (f : Falls number up) where
 module _ (G : GeneTree) (t : Rooted G) where
   open GeneTree G using (left, right, parent as up)
 
-  up-falls : Falls number up
+  pub up-falls : Falls number up
   up-falls = record {
     stay = byEq (up 0) 0 (λ e. e) (λ d. absurd (omega (arith, less 0 d)));
     fall = λ x d. byEq (up x) 0 (λ e. omega arith) (λ e. less x e);

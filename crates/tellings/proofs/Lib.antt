@@ -1,0 +1,13 @@
+pub mod Options
+pub mod Picks
+pub mod Leads
+pub mod Chosen
+pub mod First
+pub mod Told
+pub mod Keys
+pub mod Walks
+pub mod Rising
+pub mod Turns
+pub mod Listing
+pub mod Admitted
+pub mod KnownHistories

@@ -1,0 +1,4 @@
+pub mod Steps
+pub mod Chosen
+pub mod Shown
+pub mod inner
