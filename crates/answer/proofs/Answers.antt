@@ -29,9 +29,9 @@ unfolding answerBy
 report-answer j X e = rw (is-same e)
 
 -- what the promise says of an answer in hand
-module _ {rs : List Refusal} {X : Contents} {d e u t : List ℕ} {r : Answer} (p : Promise rs X d e u t r) where
-  pub says-of : {a : Answer} → r ≡ a → Says rs X d e u t a
-  says-of q = subst (λ (x : Answer). Says rs X d e u t x) q (p .says)
+module _ {n : ℕ} {rs : List Refusal} {X : Contents} {d e u t : List ℕ} {r : Answer} (p : Promise n rs X d e u t r) where
+  pub says-of : {a : Answer} → r ≡ a → Says n rs X d e u t a
+  says-of q = subst (λ (x : Answer). Says n rs X d e u t x) q (p .says)
 
   -- the verdict that it tells
   pub verdict-report : {b : ℕ} → r ≡ Report b → verdict rs ≡ 0
@@ -55,16 +55,16 @@ module _ {rs : List Refusal} {X : Contents} {d e u t : List ℕ} {r : Answer} (p
   pub report-fits : {b : ℕ} → r ≡ Report b → b ≤ length e
   unfolding written
   report-fits {b} q =
-      let i : IsReport rs X d e u t b = says-of q in
+      let i : IsReport n rs X d e u t b = says-of q in
       omega (arith, i .bytes, ap length (i .result-written), length-append (reportIn X) (drop (length (reportIn X)) d))
 
 -- the numbers of refusals and of reports are apart
-module _ {rs : List Refusal} {X : Contents} {d e u t : List ℕ} where
-  pub below-refused : (r : Answer) → Promise rs X d e u t r → numberOf r < leastReport → (k : ℕ) × (r ≡ Refused k)
+module _ {n : ℕ} {rs : List Refusal} {X : Contents} {d e u t : List ℕ} where
+  pub below-refused : (r : Answer) → Promise n rs X d e u t r → numberOf r < leastReport → (k : ℕ) × (r ≡ Refused k)
   below-refused (Report b) p l = absurd (omega (arith, p .says .apart))
   below-refused (Refused k) p l = (k, refl)
 
-  pub above-report : (r : Answer) → Promise rs X d e u t r → leastReport ≤ numberOf r → (b : ℕ) × (r ≡ Report b)
+  pub above-report : (r : Answer) → Promise n rs X d e u t r → leastReport ≤ numberOf r → (b : ℕ) × (r ≡ Report b)
   above-report (Report b) p l = (b, refl)
   above-report (Refused k) p l = absurd (omega (arith, p .says .apart))
 

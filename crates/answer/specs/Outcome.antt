@@ -1,5 +1,5 @@
--- What a call that scores a family answers and leaves (01, "Call", "Refusals"), by its refusals in the order of checking and the contents that it scores
--- where none of them applies; and the promise of such a call, part by part.
+-- What a call that scores a family answers and leaves (01, "Refusals"), by its refusals in the order of checking, the last of their numbers, and the
+-- contents that it scores where none of them applies; and the promise of such a call, part by part.
 -- Assumes nothing.
 use mathlib.Core.Path.{_≡_}
 use mathlib.Core.Bool.{cond}
@@ -38,10 +38,11 @@ pub record Outcome (k : ℕ) (X : Contents) (d e u t : List ℕ) (r : Answer) : 
   pub scratch : t ≡ scratchBy k X u
 
 -- what each case of the answer says: of the refusals and the contents, of the result and the scratch before and after the call, and of its number
-module _ (refusals : List Refusal) (X : Contents) (result resultAfter scratch scratchAfter : List ℕ) where
+module _ (last : ℕ) (refusals : List Refusal) (X : Contents) (result resultAfter scratch scratchAfter : List ℕ) where
   -- "the first that applies is given. A refusal returns its number; result and scratch are untouched"
   pub record IsRefused (k : ℕ) : Type 0 where
     pub low : 1 ≤ k
+    pub high : k ≤ last
     pub apart : k < leastReport
     pub first : First refusals k
     pub result-kept : resultAfter ≡ result
@@ -61,10 +62,10 @@ module _ (refusals : List Refusal) (X : Contents) (result resultAfter scratch sc
   Says (Report b) = IsReport b
   Says (Refused k) = IsRefused k
 
--- the promise of a call with these refusals, which scores X
-pub record Promise (refusals : List Refusal) (X : Contents) (result resultAfter scratch scratchAfter : List ℕ) (answer : Answer) : Type 0 where
+-- the promise of a call with these refusals, numbered up to last, which scores X
+pub record Promise (last : ℕ) (refusals : List Refusal) (X : Contents) (result resultAfter scratch scratchAfter : List ℕ) (answer : Answer) : Type 0 where
   -- demand 1: a report or a refusal, each under its condition only
-  pub says : Says refusals X result resultAfter scratch scratchAfter answer
+  pub says : Says last refusals X result resultAfter scratch scratchAfter answer
   -- and wherever its condition holds
   pub refuses : (k : ℕ) → First refusals k → answer ≡ Refused k
   pub scores : NoneApplies refusals → answer ≡ Report (length (reportIn X))

@@ -101,3 +101,13 @@ pub verdict-small : (rs : List Refusal) → AllTell rs → verdict rs < leastRep
 unfolding verdict
 verdict-small [] no-more = omega arith
 verdict-small (r ∷ rs) (one-more t ts) = byBool (r .test) (λ y. rw y (t .small)) (λ f. rw f (verdict-small rs (ts f)))
+
+-- refusals with numbers up to k have a verdict up to k
+unfoldable pub Low : ℕ → List Refusal → Type 0
+Low k [] = Unit {0}
+Low k (r ∷ rs) = (r .number ≤ k) × Low k rs
+
+pub verdict-low : (k : ℕ) (rs : List Refusal) → Low k rs → verdict rs ≤ k
+unfolding verdict Low
+verdict-low k [] l = omega arith
+verdict-low k (r ∷ rs) (a, l) = byBool (r .test) (λ t. rw t a) (λ t. rw t (verdict-low k rs l))

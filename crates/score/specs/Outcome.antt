@@ -1,4 +1,4 @@
--- The promise of the call that scores a sheet: that of a call with the refusals of its sheet, which scores the contents of its sheet.
+-- The promise of the call that scores a sheet: that of a call with the refusals of its sheet, numbered up to 13, which scores the contents of its sheet.
 -- Assumes nothing.
 use mathlib.Core.List.{List}
 use Prim.Native.Nat.{ℕ}
@@ -11,4 +11,4 @@ use Rattle.score.specs.Refusals.{refusals}
 -- of the sheet, the result and the scratch before and after the call, and the answer
 abbrev pub Promise : (sheet result resultAfter scratch scratchAfter : List ℕ) → Answer → Type 0
 Promise sheet result resultAfter scratch scratchAfter answer =
-    Call.Promise (refusals sheet (length result) (length scratch)) (contentsOf sheet) result resultAfter scratch scratchAfter answer
+    Call.Promise 13 (refusals sheet (length result) (length scratch)) (contentsOf sheet) result resultAfter scratch scratchAfter answer
