@@ -3,13 +3,14 @@
 -- Assumes nothing.
 use mathlib.Core.Path.{_≡_, sym, _∙_, ap}
 use mathlib.Core.List.{List}
-use Prim.Native.Nat.{ℕ, _≤_, _<_}
+use Prim.Native.Nat.{ℕ, _<_}
 use native.Mathlib.Omega.{arith}
 use lib.ListN.{length, take}
-use Rattle.finite.specs.Refusals.{leastReport}
+use Rattle.finite.specs.Refusals.{leastReport, Refusal}
 use Rattle.finite.proofs.Tests.{is-same, not-same}
 use Rattle.columns.specs.Writing.{written}
 use Rattle.columns.proofs.Writing.{length-written}
+use Rattle.family.specs.Families.{Contents}
 use Rattle.family.specs.Reports.{reportIn}
 use Rattle.family.specs.Buffers.{leastWords, leastBytes}
 use Rattle.answer.specs.declared.Answer.{Answer}
@@ -17,6 +18,7 @@ use Rattle.answer.specs.declared.Answer.the-variants.{Report, Refused}
 use Rattle.score.specs.Contents.{contentsOf}
 use Rattle.score.specs.Refusals.{refusal}
 use Rattle.score.specs.Outcome.{Promise}
+use Rattle.answer.specs.Outcome as Call
 use Rattle.answer.proofs.Answers.{says-of, report-fits, verdict-report, verdict-refused}
 use Rattle.reply.specs.Refused.{refusedLine}
 use Rattle.reply.specs.Replies.{longestSheet, replyOf, Replied}
@@ -61,5 +63,7 @@ module _ (text : List ℕ) (bytes : ℕ) (d e u t : List ℕ) (r : Answer) (long
         fits = omega (arith, ap length f, length-written d (refusedLine k) (omega (arith, length-line k)), length-line k);
       }
 
-  pub refusal-fits : (k : ℕ) → r ≡ Refused k → (k < leastReport) × (14 ≤ length e)
-  refusal-fits k q = let i = says-of p q in (i .apart, omega (arith, ap length (i .result-kept)))
+-- a refusal's number and its line fit, whatever the room for the text
+pub refusal-fits : {n : ℕ} {rs : List Refusal} {X : Contents} {d e u t : List ℕ} {r : Answer} → Call.Promise n rs X d e u t r → (k : ℕ) → r ≡ Refused k
+    → (k < leastReport) × (length e ≡ length d)
+refusal-fits p k q = let i = says-of p q in (i .apart, ap length (i .result-kept))

@@ -3,6 +3,8 @@
 // all of them to the independent implementation. The folder sheets/ of the repository is this data/.
 use test_files::Got;
 
+const STDOUT: i32 = 1;
+
 // Whether the reply to a sheet is the report beside it. As much of a sheet is read as the program reads, and of a report a byte more than the longest.
 fn is_as_expected(word: usize) -> bool {
     let mut sheet = [0u8; reply::SHEET];
@@ -18,19 +20,27 @@ fn is_as_expected(word: usize) -> bool {
     check::same(&out[..written], &expected[..length])
 }
 
-fn tell(word: usize) {
+// Writes the name, and what is told of it.
+fn tell(word: usize, told: &[u8]) {
+    let mut name = [0u8; 64];
+    let length = os::arg(word, &mut name);
+    io::write_all(STDOUT, &name[..length]);
+    io::write_all(STDOUT, told);
+}
+
+fn compare(word: usize) {
     if is_as_expected(word) {
-        test_files::tell(word, b": as expected\n");
+        tell(word, b": as expected\n");
         return;
     }
-    test_files::tell(word, b": another reply, or a file is missing\n");
+    tell(word, b": another reply, or a file is missing\n");
 }
 
 fn main() {
     let words = os::arg_count();
     let mut i: usize = 1;
     while i < words {
-        tell(i);
+        compare(i);
         i += 1;
     }
 }

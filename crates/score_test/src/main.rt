@@ -79,14 +79,22 @@ fn score_one(sheet: &[u8]) {
     }
 }
 
+// Writes the name, and what is told of it.
+fn tell(word: usize, told: &[u8]) {
+    let mut name = [0u8; 64];
+    let length = os::arg(word, &mut name);
+    io::write_all(STDOUT, &name[..length]);
+    io::write_all(STDOUT, told);
+}
+
 // Scores the sheet of a name.
 fn score_named(word: usize) {
     let mut sheet = [0u8; SHEET];
     let Got::Bytes(bytes) = test_files::read(word, b".sheet", &mut sheet) else {
-        test_files::tell(word, b" is missing\n");
+        tell(word, b" is missing\n");
         return;
     };
-    test_files::tell(word, b"\n");
+    tell(word, b"\n");
     score_one(&sheet[..bytes]);
 }
 

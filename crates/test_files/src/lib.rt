@@ -47,11 +47,3 @@ pub fn read(word: usize, ending: &[u8], into: &mut [u8]) -> Got
     libc::close(file);
     Got::Bytes(got)
 }
-
-// Writes the name, and what is told of it.
-pub fn tell(word: usize, told: &[u8]) {
-    let mut name = [0u8; PATH];
-    let length = os::arg(word, &mut name);
-    io::write_all(libc::STDOUT_FILENO, &name[..length]);
-    io::write_all(libc::STDOUT_FILENO, told);
-}

@@ -26,9 +26,8 @@ enum-known-answer-2 c = search needs
 write-refusal-requires : tie.Need-write-refusal-requires
 write-refusal-requires c κs =
     let a = c .before .before .before .before .before .before .before .before .before .before .before .before .before .pre in
-    let x = c .before .before .before .before .before .before .before .before .before .before .before .before .before .args in
-    let f = refusal-fits (x .text .now) (x .bytes) _ _ _ _ _ (a .0) (a .2) (search needs) (c .before .before .before .before .before .before .before .score .ensures) _ (c .before .before .answer2 .given .1) in
-    (omega (arith, f .0), f .1)
+    let f = refusal-fits (c .before .before .before .before .before .before .before .score .ensures) _ (c .before .before .answer2 .given .1) in
+    (omega (arith, f .0), omega (arith, f .1, a .2))
 
 same-length : tie.Need-same-length
 same-length c = search needs
