@@ -1,4 +1,6 @@
 // A field of six columns: read by a cursor, written into the front of what is lent.
+#![tactic(auto)]
+
 ghost use Rattle.std.specs.Prelude.{◌≡◌, true, ◌↔◌, ◌+◌, ◌≤◌, ◌<◌, length, drop, replicate};
 ghost use Rattle.columns.specs.Fields.{place_value, column_of, columns, field_at, FieldIs};
 ghost use Rattle.columns.specs.inner.Scans.{front_count, Blank, two_spaces, digit, opening, fitting};

@@ -1,4 +1,6 @@
 // The gene tree of a sheet: refusals 12 and 13, and the table of each gene's children, leaf and parent.
+#![tactic(auto)]
+
 ghost use Rattle.std.specs.Prelude.{◌≡◌, ◌||◌, ◌≤◌, length};
 ghost use Rattle.finite.specs.Refusals.{verdict};
 ghost use Rattle.tables.specs.Columns.{column, blank, Clear};

@@ -1,5 +1,7 @@
 // Where the numbers of a family stand: the lines of its sheet, and the tables of named columns that are worked out from them. Each column has an
 // accessor here; what is written goes through `tables::put` by the column's name.
+#![tactic(auto)]
+
 pub mod choices;
 pub mod genes;
 pub mod lines;

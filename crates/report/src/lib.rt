@@ -1,4 +1,6 @@
 // The report: its lines, each written into what is left of the result.
+#![tactic(auto)]
+
 ghost use Rattle.std.specs.Prelude.{◌≡◌, true, ◌+◌, ◌*◌, ◌≤◌, ◌<◌, length};
 ghost use Rattle.finite.specs.Tests.{tally};
 ghost use Rattle.finite.specs.Range.{count};

@@ -1,5 +1,7 @@
 // Tables of named columns in one array, and what one pass over the numbers 1 to n finds in the parents that an array has at equal distances: the
 // lowest child of each number, the next one, and how many it has. Any parents will do, for what is no number of 1 to n has no children.
+#![tactic(auto)]
+
 ghost use Rattle.std.specs.Prelude.{◌≡◌, ◌≢◌, ◌+◌, ◌*◌, ◌≤◌, ◌<◌, length};
 ghost use Rattle.finite.specs.Tests.{same, tally};
 ghost use Rattle.finite.specs.Range.{children};

@@ -1,4 +1,6 @@
 // Lines of a sheet or a report: fields and a line feed. Read by a cursor, written into the part of the result that is lent.
+#![tactic(auto)]
+
 ghost use Rattle.std.specs.Prelude.{◌≡◌, [], ◌+◌, ◌≤◌, length};
 ghost use Rattle.columns.specs.Writing.{written, put};
 ghost use Rattle.text_lines.specs.Lines.{field_count, line_of, line_length, end_at, malformed, Small, LineRead};

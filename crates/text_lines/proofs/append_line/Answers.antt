@@ -1,0 +1,9 @@
+-- Writing a line at a place: the part that was lent came back with the line at its front.
+-- Assumes nothing.
+use mathlib.Core.Path.{refl}
+use Rattle.columns.proofs.Writing.{lent}
+use borrow.Author.Rules.{rules}
+use Rattle.text_lines.proofs.append_line.Goals as goal
+
+pub returns : goal.returns
+returns c = let a = c.args in (lent a.res.now _ a.at _ (search rules) c.write_line.ensures, refl)
