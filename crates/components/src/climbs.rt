@@ -14,7 +14,7 @@ use layout::parts::{Parts, TOP, rank};
 
 // Marks the nodes on the way between x and y in the principal tree, the one where they meet left out: the climber of larger rank goes on.
 fn mark_way(n: usize, lines: &Lines, parts: &Parts, marks: &mut [u32; 128], x: usize, y: usize)
-    requires n_bound { (n ≤ 127) × (x ≤ n) × (y ≤ n) × (length marks.old ≡ 128) }
+    requires limits { (n ≤ 127) × (x ≤ n) × (y ≤ n) × (length marks.old ≡ 128) }
     requires sound { Sound (network (nodes_in n lines.now)) × Ranked (network (nodes_in n lines.now)) parts.now }
     ensures { MarkedWay (network (nodes_in n lines.now)) marks.old marks.new x y }
 {
@@ -33,7 +33,7 @@ fn mark_way(n: usize, lines: &Lines, parts: &Parts, marks: &mut [u32; 128], x: u
 
 // Marks the way between node v + 1 and its secondary parent, if it has one.
 fn mark_next(n: usize, lines: &Lines, parts: &Parts, marks: &mut [u32; 128], v: usize)
-    requires n_bound { (n ≤ 127) × (v < n) × Sound (network (nodes_in n lines.now)) × Ranked (network (nodes_in n lines.now)) parts.now }
+    requires limits { (n ≤ 127) × (v < n) × Sound (network (nodes_in n lines.now)) × Ranked (network (nodes_in n lines.now)) parts.now }
     requires marked_ways { MarkedWays (network (nodes_in n lines.now)) marks.old v }
     ensures { MarkedWays (network (nodes_in n lines.now)) marks.new (v + 1) }
 {
@@ -59,7 +59,7 @@ fn non_tops(n: usize, lines: &Lines, parts: &Parts, marks: &mut [u32; 128])
 
 // The top of v's component: the first node without a mark, going up principal arcs.
 fn top_of(n: usize, lines: &Lines, marks: &[u32; 128], v: usize) -> u32
-    requires n_bound { (n ≤ 127) × (1 ≤ v) × (v ≤ n) }
+    requires limits { (n ≤ 127) × (1 ≤ v) × (v ≤ n) }
     requires sound { Sound (network (nodes_in n lines.now)) × NonTops (network (nodes_in n lines.now)) marks.now }
     ensures { result ≡ component (network (nodes_in n lines.now)) v }
 {

@@ -214,8 +214,8 @@ fn fill_parents(n: usize, m: usize, lines: &Lines, genes: &mut Genes)
 // The gene tree of the lines, in a table of zeros; for any lines of n nodes and m genes.
 pub fn fill(n: usize, m: usize, lines: &Lines, genes: &mut Genes)
     requires { (n ≤ 127) × (m ≤ 127) × (genes.old ≡ blank) }
-    ensures genes_after { gene_tree m genes.new ≡ gene_tree_of (nodes_in n lines.now) (genes_in n m lines.now) }
-    ensures genes_len { length genes.new ≡ 512 }
+    ensures tree { gene_tree m genes.new ≡ gene_tree_of (nodes_in n lines.now) (genes_in n m lines.now) }
+    ensures long { length genes.new ≡ 512 }
 {
     let mut work = [0u32; 512];
     note_bearers(n, lines, &mut work);

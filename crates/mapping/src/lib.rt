@@ -255,7 +255,7 @@ pub fn seat_leaves(m: usize, g: &Genes, r: &mut Results)
 fn inner(n: usize, t: &Tree, r: &mut Results, k: usize, a: usize, b: usize) -> Pair
     requires { Climbable n t.now × Seats n t.now r.old a b × (k ≤ 127) × (a ≤ 127) × (b ≤ 127) }
     ensures paired { Paired (tree_of n t.now) (place_in r.old a) (place_in r.old b) result }
-    ensures r_after { r.new ≡ noted_by r.old k a b result }
+    ensures results { r.new ≡ noted_by r.old k a b result }
 {
     let p = pair_of(n, t, results::place(r, a), results::place(r, b));
     seat(r, k, p.node, p.event);
@@ -292,7 +292,7 @@ fn total(h: Header, s: Score) -> Score
 // Every gene's place, event, transfers and losses, and the score, children before their parents.
 pub fn evaluate(h: Header, t: &Tree, g: &Genes, r: &mut Results) -> Score
     requires { Family h t.now g.now × Lent (gene_tree h.genes g.now) r.old }
-    ensures value { result ≡ score_of (tree_of h.nodes t.now) (gene_tree h.genes g.now) (costs h) }
+    ensures score { result ≡ score_of (tree_of h.nodes t.now) (gene_tree h.genes g.now) (costs h) }
     ensures evaluated { Evaluated (tree_of h.nodes t.now) (gene_tree h.genes g.now) r.new }
 {
     let mut s = Score {

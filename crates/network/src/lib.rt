@@ -11,8 +11,8 @@ use parents::{seven, six};
 
 // 7 reads the stamps of the parents: 6 has passed, so they are nodes.
 fn after_six(n: usize, lines: &Lines) -> u32
-    requires n_bound { n ≤ 127 }
-    requires lines_value { refusal6 (nodes_in n lines.now) ≡ false }
+    requires limits { n ≤ 127 }
+    requires parents { refusal6 (nodes_in n lines.now) ≡ false }
     ensures { result ≡ verdict (after_six (nodes_in n lines.now)) }
 {
     if seven(n, lines) {

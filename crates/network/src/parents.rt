@@ -74,8 +74,8 @@ fn bad_stamps(p: usize, s: usize, tp: usize, ts: usize, t: usize) -> bool
 
 // The parents are nodes: 6 has passed.
 fn bad_stamps_at(n: usize, lines: &Lines, v: usize) -> bool
-    requires n_bound { (n ≤ 127) × (1 ≤ v) × (v ≤ n) }
-    requires lines_value { refusal6 (nodes_in n lines.now) ≡ false }
+    requires limits { (n ≤ 127) × (1 ≤ v) × (v ≤ n) }
+    requires parents { refusal6 (nodes_in n lines.now) ≡ false }
     ensures { result ≡ bad_stamps_at (nodes_in n lines.now) v }
 {
     let p = principal(lines, v);
@@ -85,8 +85,8 @@ fn bad_stamps_at(n: usize, lines: &Lines, v: usize) -> bool
 
 // 7.
 pub fn seven(n: usize, lines: &Lines) -> bool
-    requires n_bound { n ≤ 127 }
-    requires lines_value { refusal6 (nodes_in n lines.now) ≡ false }
+    requires limits { n ≤ 127 }
+    requires parents { refusal6 (nodes_in n lines.now) ≡ false }
     ensures { result ≡ refusal7 (nodes_in n lines.now) }
 {
     let mut v: usize = 0;

@@ -170,10 +170,10 @@ pub fn write_report(
     parts: &Parts,
     results: &Results,
 ) -> usize
-    requires n_bound { (n ≤ 127) × (m ≤ 127) × SmallTotals totals × SmallNodes n tree.now parts.now × SmallGenes m results.now }
-    requires lines_in_bounds { report_length n m (reticulation_in n lines.now) ≤ length res.old }
-    ensures res_after { res.new ≡ written res.old (tabled_report totals n m lines.now tree.now parts.now results.now) }
-    ensures value { result ≡ report_length n m (reticulation_in n lines.now) }
+    requires limits { (n ≤ 127) × (m ≤ 127) × SmallTotals totals × SmallNodes n tree.now parts.now × SmallGenes m results.now }
+    requires room { report_length n m (reticulation_in n lines.now) ≤ length res.old }
+    ensures bytes { res.new ≡ written res.old (tabled_report totals n m lines.now tree.now parts.now results.now) }
+    ensures end { result ≡ report_length n m (reticulation_in n lines.now) }
 {
     let next = write_totals(res, totals);
     let last = write_reticulations(res, next, n, lines, tree, parts);

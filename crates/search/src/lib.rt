@@ -137,7 +137,7 @@ fn component(
 ) -> Stage
     requires prepared { Prepared h lines.now parts.now genes.now × Working h lines.now genes.now t.old r.old }
     requires reached { Reached (network_of h lines.now) (genes_of h genes.now) (costs h) choices.old s × (s.done < h.nodes) × (s.setting ≡ 0) }
-    ensures reached_2 { Reached (network_of h lines.now) (genes_of h genes.now) (costs h) choices.new result × (result.done ≡ s.done + 1) × (result.setting ≡ 0) }
+    ensures reached_after { Reached (network_of h lines.now) (genes_of h genes.now) (costs h) choices.new result × (result.done ≡ s.done + 1) × (result.setting ≡ 0) }
     ensures working { Working h lines.now genes.now t.new r.new }
 {
     let tried = settings_of(parts::reticulation_count(parts, s.done + 1));

@@ -14,7 +14,7 @@ use refusals::{eight, nine, ten};
 use tables::Table;
 
 fn after_eight(n: usize, lines: &Lines, counts: &Table) -> u32
-    requires n_bound { n ≤ 127 }
+    requires limits { n ≤ 127 }
     requires counts { Counts (nodes_in n lines.now) counts.now }
     ensures { result ≡ verdict (after_eight (nodes_in n lines.now)) }
 {

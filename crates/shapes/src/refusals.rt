@@ -34,7 +34,7 @@ fn shapeless(p: usize, s: usize, a: usize, b: usize) -> bool
 
 // 8.
 pub fn eight(n: usize, lines: &Lines, counts: &Table) -> bool
-    requires n_bound { n ≤ 127 }
+    requires limits { n ≤ 127 }
     requires counts { Counts (nodes_in n lines.now) counts.now }
     ensures { result ≡ refusal8 (nodes_in n lines.now) }
 {
@@ -65,7 +65,7 @@ fn leaf_with(s: usize, a: usize, b: usize) -> bool
 
 // How many nodes bear species k. Species are most often numbered from 1, so those up to n are counted in the table, and only others one by one.
 fn bearers(n: usize, lines: &Lines, counts: &Table, k: usize) -> usize
-    requires n_bound { (n ≤ 127) × (k ≢ 0) }
+    requires limits { (n ≤ 127) × (k ≢ 0) }
     requires counts { Counts (nodes_in n lines.now) counts.now }
     ensures { result ≡ children n (node_species lines.now) k }
 {
@@ -77,7 +77,7 @@ fn bearers(n: usize, lines: &Lines, counts: &Table, k: usize) -> usize
 
 // 9: of one node. Only a leaf with a species asks how many nodes have that.
 fn wrong_species_at(n: usize, lines: &Lines, counts: &Table, v: usize) -> bool
-    requires n_bound { (n ≤ 127) × (1 ≤ v) × (v ≤ n) }
+    requires limits { (n ≤ 127) × (1 ≤ v) × (v ≤ n) }
     requires counts { Counts (nodes_in n lines.now) counts.now }
     ensures { result ≡ wrong_species_at (nodes_in n lines.now) v }
 {
@@ -95,7 +95,7 @@ fn wrong_species_at(n: usize, lines: &Lines, counts: &Table, v: usize) -> bool
 
 // 9.
 pub fn nine(n: usize, lines: &Lines, counts: &Table) -> bool
-    requires n_bound { n ≤ 127 }
+    requires limits { n ≤ 127 }
     requires counts { Counts (nodes_in n lines.now) counts.now }
     ensures { result ≡ refusal9 (nodes_in n lines.now) }
 {

@@ -81,7 +81,7 @@ fn parent_taken(lines: &lines::Lines, r: usize, b: u32) -> usize
 
 // Turns reticulation r to its secondary parent where b is 1, to its principal one where b is 0. The number of nodes serves the contract alone.
 fn turn(n: usize, lines: &lines::Lines, t: &mut tree::Tree, r: usize, b: u32)
-    requires n_bound { (n ≤ 127) × (1 ≤ r) × (r ≤ n) × (b ≤ 1) × Sound (network (nodes_in n lines.now)) × Reticulation (network (nodes_in n lines.now)) r }
+    requires limits { (n ≤ 127) × (1 ≤ r) × (r ≤ n) × (b ≤ 1) × Sound (network (nodes_in n lines.now)) × Reticulation (network (nodes_in n lines.now)) r }
     requires some_held { SomeHeld (network (nodes_in n lines.now)) t.old }
     ensures { Turns (network (nodes_in n lines.now)) r b t.old t.new }
 {
@@ -104,7 +104,7 @@ fn turn_next(
     t: &mut tree::Tree,
     v: usize,
 )
-    requires n_bound { (n ≤ 127) × (v < n) × Sound (network (nodes_in n lines.now)) × Parted (network (nodes_in n lines.now)) parts.now × ((c : ℕ) → reticulation_count (network (nodes_in n lines.now)) c ≤ 8) × (k < 4) }
+    requires limits { (n ≤ 127) × (v < n) × Sound (network (nodes_in n lines.now)) × Parted (network (nodes_in n lines.now)) parts.now × ((c : ℕ) → reticulation_count (network (nodes_in n lines.now)) c ≤ 8) × (k < 4) }
     requires turned_to { TurnedTo (network (nodes_in n lines.now)) (assembled (network (nodes_in n lines.now)) (entry choices.now k)) v t.old }
     ensures { TurnedTo (network (nodes_in n lines.now)) (assembled (network (nodes_in n lines.now)) (entry choices.now k)) (v + 1) t.new }
 {
@@ -132,7 +132,7 @@ pub fn switch(
     k: usize,
     t: &mut tree::Tree,
 )
-    requires n_bound { (n ≤ 127) × Sound (network (nodes_in n lines.now)) × Parted (network (nodes_in n lines.now)) parts.now × ((c : ℕ) → reticulation_count (network (nodes_in n lines.now)) c ≤ 8) × (k < 4) }
+    requires limits { (n ≤ 127) × Sound (network (nodes_in n lines.now)) × Parted (network (nodes_in n lines.now)) parts.now × ((c : ℕ) → reticulation_count (network (nodes_in n lines.now)) c ≤ 8) × (k < 4) }
     requires some_held { SomeHeld (network (nodes_in n lines.now)) t.old }
     ensures { Held (network (nodes_in n lines.now)) (assembled (network (nodes_in n lines.now)) (entry choices.now k)) t.new }
 {

@@ -29,7 +29,7 @@ fn tip_cell(
     scratch: &mut [u32],
 )
     requires filling { Filling h lines.now genes.now arcs.now scratch.old × TipRow h lines.now genes.now row }
-    requires le_i { (1 ≤ i) × (i ≤ h.nodes) × PartlyIn h lines.now genes.now arcs.now scratch.old row.gene i }
+    requires at_place { (1 ≤ i) × (i ≤ h.nodes) × PartlyIn h lines.now genes.now arcs.now scratch.old row.gene i }
     ensures partly_in { PartlyIn h lines.now genes.now arcs.now scratch.new row.gene (i - 1) }
     ensures kept_in { KeptIn h lines.now genes.now scratch.old scratch.new }
 {
@@ -50,7 +50,7 @@ fn inner_cell(
     scratch: &mut [u32],
 )
     requires filling { Filling h lines.now genes.now arcs.now scratch.old × InnerRow h genes.now row }
-    requires le_i { (1 ≤ i) × (i ≤ h.nodes) × PartlyIn h lines.now genes.now arcs.now scratch.old row.gene i }
+    requires at_place { (1 ≤ i) × (i ≤ h.nodes) × PartlyIn h lines.now genes.now arcs.now scratch.old row.gene i }
     ensures partly_in { PartlyIn h lines.now genes.now arcs.now scratch.new row.gene (i - 1) }
     ensures kept_in { KeptIn h lines.now genes.now scratch.old scratch.new }
 {
@@ -66,7 +66,7 @@ fn inner_cell(
 fn fill_tip_row(h: Header, row: Row, lines: &Lines, genes: &Genes, arcs: &Arcs, scratch: &mut [u32])
     requires filling { Filling h lines.now genes.now arcs.now scratch.old × TipRow h lines.now genes.now row }
     requires rows_in { RowsIn h lines.now genes.now scratch.old row.gene }
-    ensures rows_in_2 { RowsIn h lines.now genes.now scratch.new (row.gene - 1) }
+    ensures rows_after { RowsIn h lines.now genes.now scratch.new (row.gene - 1) }
     ensures kept_in { KeptIn h lines.now genes.now scratch.old scratch.new }
 {
     let mut i = h.nodes;
@@ -87,7 +87,7 @@ fn fill_inner_row(
 )
     requires filling { Filling h lines.now genes.now arcs.now scratch.old × InnerRow h genes.now row }
     requires rows_in { RowsIn h lines.now genes.now scratch.old row.gene }
-    ensures rows_in_2 { RowsIn h lines.now genes.now scratch.new (row.gene - 1) }
+    ensures rows_after { RowsIn h lines.now genes.now scratch.new (row.gene - 1) }
     ensures kept_in { KeptIn h lines.now genes.now scratch.old scratch.new }
 {
     let mut i = h.nodes;

@@ -24,4 +24,4 @@ returns c = let s = c.requires in
     let e2 = c.next_children-2.ensures in
     let e3 = c.fill_leaves.ensures in
     let e4 = c.fill_parents.ensures in
-    (tree_is _ _ _ _ _ _ _ _ s.1 s.2 e1 e2 e3 e4, tree_long _ _ _ _ _ _ _ _ s.1 s.2 e1 e2 e3 e4)
+    record { tree = tree_is _ _ _ _ _ _ _ _ s.1 s.2 e1 e2 e3 e4; long = tree_long _ _ _ _ _ _ _ _ s.1 s.2 e1 e2 e3 e4 }

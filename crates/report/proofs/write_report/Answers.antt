@@ -6,22 +6,22 @@ use Rattle.report.proofs.Writing.{totals_room, nodes_room, genes_room, report_by
 use Rattle.report.proofs.write_report.Goals as goal
 
 pub write_totals-next-requires : goal.write_totals-next-requires
-write_totals-next-requires c = let p = c.requires in (totals_room _ _ _ _ p.1, p.0.2)
+write_totals-next-requires c = let p = c.requires in (totals_room _ _ _ _ p.room, p.limits.2)
 
 pub write_reticulations-last-requires : goal.write_reticulations-last-requires
 write_reticulations-last-requires c = let p = c.requires in
     let w = c.write_totals-next in
-    (p.0.0, p.0.3, nodes_room _ _ _ _ _ _ p.1 w.ensures.1 w.auto.0)
+    (p.limits.0, p.limits.3, nodes_room _ _ _ _ _ _ p.room w.ensures.1 w.auto.res)
 
 pub write_genes-requires : goal.write_genes-requires
 write_genes-requires c = let p = c.requires in
     let w = c.write_totals-next in
     let v = c.write_reticulations-last in
-    (p.0.1, p.0.4, genes_room _ _ _ _ _ _ _ p.1 w.ensures.1 v.ensures.after (v.auto.0 ∙ w.auto.0))
+    (p.limits.1, p.limits.4, genes_room _ _ _ _ _ _ _ p.room w.ensures.1 v.ensures.after (v.auto.res ∙ w.auto.res))
 
 pub returns : goal.returns
 unfolding report_of report_length
 returns c = let w = c.write_totals-next in
     let v = c.write_reticulations-last in
     let u = c.write_genes in
-    (report_bytes _ _ _ _ _ _ _ _ _ _ _ _ _ w.ensures v.ensures u.ensures, report_end _ _ _ _ _ _ _ _ _ _ _ _ _ w.ensures v.ensures u.ensures)
+    record { bytes = report_bytes _ _ _ _ _ _ _ _ _ _ _ _ _ w.ensures v.ensures u.ensures; end = report_end _ _ _ _ _ _ _ _ _ _ _ _ _ w.ensures v.ensures u.ensures }

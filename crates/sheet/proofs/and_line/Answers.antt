@@ -3,7 +3,7 @@
 use Rattle.sheet.proofs.and_line.Goals as goal
 
 pub returns-in-After : goal.returns-in-After
-returns-in-After c = rw c.enum_told-1.given.1
+returns-in-After c = rw c.in-After.is
 
 pub returns-in-Malformed : goal.returns-in-Malformed
-returns-in-Malformed c = rw c.enum_told-in-Malformed-1.given.1
+returns-in-Malformed c = rw c.in-Malformed.is
