@@ -16,13 +16,13 @@ const FRONT: usize = 4;
 const SPACES: u32 = 32 * (1 + 256);
 
 // A place in the text.
-#[derive(Drop)]
+#[derive(Clone, Copy)]
 pub struct Cursor {
     pub at: usize,
 }
 
 // What stands at a cursor: a number with the cursor after its field, or no number.
-#[derive(Drop)]
+#[derive(Clone, Copy)]
 pub enum Field {
     Number(u32, Cursor),
     Malformed,

@@ -1,5 +1,7 @@
 // The components of a network (01, "Settings and placement") and refusal 11: of each node its rank and the top of its component, at a top how many
 // reticulations the component has, and of a reticulation how many of its component have a lower number.
+#![tactic(auto)]
+
 mod climbs;
 
 ghost use Rattle.std.specs.Prelude.{◌≡◌, ◌+◌, ◌≤◌, ◌<◌};

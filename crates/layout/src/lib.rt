@@ -10,7 +10,7 @@ pub mod results;
 pub mod tree;
 
 // "Header: network nodes n, gene nodes m, costs of a duplication (D), a transfer (T) and a loss (L)".
-#[derive(Drop)]
+#[derive(Clone, Copy)]
 pub struct Header {
     pub nodes: usize,
     pub genes: usize,

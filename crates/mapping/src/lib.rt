@@ -1,5 +1,7 @@
 // The LCA mapping of a gene tree into the tree that a network displays under a switching: one climb for each pair of children finds their parent's
 // place, its event, and the transfers and losses on both ways.
+#![tactic(auto)]
+
 ghost use Rattle.std.specs.Prelude.{◌≡◌, ℕ, ◌+◌, ◌-◌, ◌≤◌, ◌<◌};
 ghost use Rattle.finite.specs.Tests.{same, tally};
 ghost use Rattle.tables.specs.Columns.{blank};
@@ -19,7 +21,7 @@ use layout::{Header, genes, results};
 
 // A way, climbed from its lower end: the transfers, the losses of a gene that passes every node above its lower end, and the arc climbed last, by its
 // lower end, 0 where none was.
-#[derive(Drop)]
+#[derive(Clone, Copy)]
 pub struct Way {
     pub transfers: u32,
     pub losses: u32,
@@ -27,7 +29,7 @@ pub struct Way {
 }
 
 // Where two climbers meet, and their ways.
-#[derive(Drop)]
+#[derive(Clone, Copy)]
 pub struct Met {
     pub node: usize,
     pub left: Way,
@@ -35,14 +37,14 @@ pub struct Met {
 }
 
 // The transfers and losses on a gene's way.
-#[derive(Drop)]
+#[derive(Clone, Copy)]
 pub struct Steps {
     pub transfers: u32,
     pub losses: u32,
 }
 
 // Where a gene sits, its event, and its children's ways.
-#[derive(Drop)]
+#[derive(Clone, Copy)]
 pub struct Pair {
     pub node: usize,
     pub event: u32,
@@ -51,7 +53,7 @@ pub struct Pair {
 }
 
 // The events of a gene tree under a switching, and their cost.
-#[derive(Drop)]
+#[derive(Clone, Copy)]
 pub struct Score {
     pub duplications: u32,
     pub transfers: u32,

@@ -14,21 +14,21 @@ const GENES: usize = 127;
 const LONGEST: usize = 574;
 
 // A species number with the place after it, or none.
-#[derive(Drop)]
+#[derive(Clone, Copy)]
 pub enum Leaf {
     Number(u32, usize),
     Missing,
 }
 
 // The place after a tree, and how many genes have been met up to there; or the text is outside the grammar.
-#[derive(Drop)]
+#[derive(Clone, Copy)]
 pub enum Step {
     Read(usize, usize),
     Outside,
 }
 
 // What a text holds: so many genes; nothing of the grammar; too many bytes; too many genes.
-#[derive(Drop)]
+#[derive(Clone, Copy)]
 pub enum Answer {
     Genes(usize),
     Outside,

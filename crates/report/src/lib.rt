@@ -15,7 +15,7 @@ use layout::results::{Results, event, losses, place, transfers};
 use layout::tree::{Tree, lateral, up};
 
 // The numbers of the first two lines.
-#[derive(Drop)]
+#[derive(Clone, Copy)]
 pub struct Totals {
     pub cost: u32,
     pub duplications: u32,

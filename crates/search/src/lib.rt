@@ -20,7 +20,7 @@ use mapping::Score;
 
 // Where the search stands: all settings of the components up to one are scored, and of the next component those below a setting, the best of which costs
 // the least; and so many settings are scored in all.
-#[derive(Drop)]
+#[derive(Clone, Copy)]
 pub struct Stage {
     pub done: usize,
     pub setting: u32,
@@ -29,7 +29,7 @@ pub struct Stage {
 }
 
 // What the search found: the trials, and the score of the switching put together from the bests.
-#[derive(Drop)]
+#[derive(Clone, Copy)]
 pub struct Found {
     pub trials: u32,
     pub score: Score,

@@ -1,5 +1,7 @@
 // The verdict on what the nodes of a species network are: refusals 8, 9 and 10, on the lines of the sheet. Each refusal that does not apply hands on to
 // the next.
+#![tactic(auto)]
+
 mod counts;
 mod refusals;
 

@@ -13,7 +13,7 @@ use layout::lines::Lines;
 use text_lines::End;
 
 // A header within the limits, or the number of its refusal.
-#[derive(Drop)]
+#[derive(Clone, Copy)]
 pub enum Headed {
     Header(Header),
     Refused(u32),

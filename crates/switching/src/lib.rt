@@ -1,4 +1,6 @@
 // The tree that a network displays, kept for one switching after another: single reticulations are turned, so that a trial of the search fills no table.
+#![tactic(auto)]
+
 ghost use Rattle.std.specs.Prelude.{◌≡◌, ℕ, ◌≤◌, ◌<◌, ◌+◌, length};
 ghost use Rattle.tables.specs.Columns.{entry, column, blank};
 ghost use Rattle.topology.specs.Networks.{Sound, Reticulation};

@@ -14,7 +14,7 @@ pub const FIELDS: usize = 5;
 pub const LINE: usize = 6 * FIELDS + 1;
 
 // Where a line ends: the cursor after it, or nowhere, since there is no line.
-#[derive(Drop)]
+#[derive(Clone, Copy)]
 pub enum End {
     After(Cursor),
     Malformed,

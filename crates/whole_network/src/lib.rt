@@ -9,7 +9,7 @@ use layout::genes::Genes;
 use layout::lines::Lines;
 
 // A gene's row: where it begins, of a leaf gene its species, and of an inner gene where its children's rows begin.
-#[derive(Drop)]
+#[derive(Clone, Copy)]
 struct Row {
     gene: usize,
     start: usize,

@@ -1,0 +1,16 @@
+-- The goals of `ranks` that are left: see Invariants.antt for the idea.
+use Prim.Native.Nat.{◌-◌}
+use Rattle.tables.specs.Columns.{column}
+use Rattle.layout.specs.inner.Parts.{rank}
+use Rattle.tables.proofs.Columns.{column_none, column_more, column_end}
+use borrow.Author.Rules.{rules}
+use Rattle.switching.proofs.ranks.Goals as goal
+
+pub loop-v-init : goal.loop-v-init
+loop-v-init c = (search rules, column_none _ _ _)
+
+pub loop-v-preserved : goal.loop-v-preserved
+loop-v-preserved c = (search rules, column_more _ _ _ _ _ _ _ c.loop-v.invariant.1 c.rank.ensures c.put.ensures)
+
+pub returns : goal.returns
+returns c = column_end _ _ _ _ _ _ c.loop-v.invariant.0 (search rules) c.loop-v.invariant.1
