@@ -1,5 +1,7 @@
 // The arcs of a network as the whole_network cost takes them, in one table: of each node its first and second child by principal arcs and its child by
 // a secondary arc, 0 for none, and the nodes in an order in which each comes after its parents.
+#![tactic(auto)]
+
 ghost use Rattle.std.specs.Prelude.{◌≡◌, ◌≤◌, length};
 ghost use Rattle.tables.specs.Columns.{blank, Clear, Kept};
 ghost use Rattle.topology.specs.Networks.{Sound};

@@ -1,4 +1,6 @@
 // The verdict on a species network: refusals 6 to 10, on the lines of the sheet. Each refusal that does not apply hands on to the next.
+#![tactic(auto)]
+
 mod parents;
 
 ghost use Rattle.std.specs.Prelude.{◌≡◌, false, ◌≤◌};

@@ -1,0 +1,20 @@
+-- What the visits of the parents placed stays, so the node is due after them.
+use Rattle.arcs.proofs.Walks.{principal_high, secondary_high, principal_falls, secondary_falls, due}
+use Rattle.arcs.proofs.+visit.Goals as goal
+
+pub visit-requires : goal.visit-requires
+visit-requires t c =
+    let s = c.requires in
+    let d = c.if-v-eq0.false in
+    (principal_falls _ _ _ s.1 d s.2 _ _ c.principal.ensures c.decreases, (s.0, principal_high _ _ _ s.1 d s.2 _ c.principal.ensures, s.2, s.3))
+
+pub visit-requires-2 : goal.visit-requires-2
+visit-requires-2 t c =
+    let s = c.requires in
+    let d = c.if-v-eq0.false in
+    (secondary_falls _ _ _ s.1 d s.2 _ _ c.secondary.ensures c.decreases, (s.0, secondary_high _ _ _ s.1 d s.2 _ c.secondary.ensures, s.2, c.visit.ensures.walked))
+
+pub append-requires : goal.append-requires
+append-requires t c =
+    let s = c.requires in
+    (s.0, s.1, c.visit-2.ensures.walked, due _ _ _ s.1 c.if-v-eq0.false s.2 c.principal.ensures c.secondary.ensures c.visit.ensures c.visit-2.ensures)
