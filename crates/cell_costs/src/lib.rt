@@ -1,5 +1,7 @@
 // One word of the table of least costs: a gene's at a node, from the words of its own row at the nodes that the arcs out lead to and of its children's
 // rows there and at the node itself.
+#![tactic(auto)]
+
 ghost use Rattle.std.specs.Prelude.{◌≡◌, ℕ, ◌+◌, ◌≤◌, length};
 ghost use Rattle.layout.specs.Headers.{WithinLimits};
 ghost use Rattle.histories.specs.Histories.{◌lesser◌, then, both, resting, leaf, least_over};

@@ -1,4 +1,6 @@
 // Gene trees as Newick text: the tree reader and the pair reader call each other, and number the genes as they meet them.
+#![tactic(auto)]
+
 ghost use Rattle.std.specs.Prelude.{◌≡◌, ◌+◌, ◌-◌, ◌≤◌, ◌<◌, length, get_or};
 ghost use Rattle.layout.specs.Lines.{cell_count};
 ghost use Rattle.newick.specs.Reading.{leaf_at, tree_at, pair_at};

@@ -1,6 +1,8 @@
 // 01's search, "a plain machine whose state is a value": the bests by top, in the table of choices, and the count of trials. All functions are lent one
 // prepared network and gene tree (specs/Prepared), and three tables to work in: the settings tried and the bests, the tree of a switching, and the genes
 // under it.
+#![tactic(auto)]
+
 ghost use Rattle.std.specs.Prelude.{◌≡◌, ◌+◌, ◌≤◌, ◌<◌};
 ghost use Rattle.tables.specs.Columns.{entry, blank};
 ghost use Rattle.layout.specs.Headers.{costs};

@@ -1,4 +1,6 @@
 // The network as a whole: the least cost over all histories, for each gene and starting node.
+#![tactic(auto)]
+
 ghost use Rattle.std.specs.Prelude.{◌-◌, ◌*◌, ◌≤◌, length};
 ghost use Rattle.histories.specs.inner.Promise.{WholeNetwork};
 ghost use Rattle.whole_network.specs.inner.Stages.{family_in, AcceptedIn, Filling, TipRow, InnerRow, RowsIn, PartlyIn, KeptIn};

@@ -1,0 +1,16 @@
+-- `newick::enter` meets its contract: `entered` writes for genes below 128 and for no other.
+-- Assumes nothing.
+use mathlib.Core.Path.{sym}
+use Prim.Native.Nat.{◌≤◌, ◌<◌}
+use Rattle.finite.proofs.Tests.{is_under, not_under}
+use Rattle.newick.specs.inner.Steps.{entered}
+use native.Mathlib.Omega.{arith}
+use Rattle.newick.proofs.enter.Goals as goal
+
+pub returns-then-own-le-GENES : goal.returns-then-own-le-GENES
+unfolding entered
+returns-then-own-le-GENES c = let l : c.args.own < 128 = omega arith in sym (rw (is_under l))
+
+pub returns-else-own-le-GENES : goal.returns-else-own-le-GENES
+unfolding entered
+returns-else-own-le-GENES c = let l : 128 ≤ c.args.own = omega arith in sym (rw (not_under l))
