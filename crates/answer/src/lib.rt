@@ -1,4 +1,6 @@
 // What a call that scores a family answers, whatever its refusals are: a report or one refusal number.
+#![tactic(auto)]
+
 ghost use Rattle.std.specs.Prelude.{◌≡◌};
 ghost use Rattle.answer.specs.Outcome.{number_of};
 

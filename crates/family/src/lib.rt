@@ -1,4 +1,6 @@
 // A family that no refusal applies to, its lines read and its components known: the search, the table of the whole network and the report.
+#![tactic(auto)]
+
 ghost use Rattle.std.specs.Prelude.{◌≡◌, not, ◌≤◌, length};
 ghost use Rattle.finite.specs.Tests.{same, tally};
 ghost use Rattle.finite.specs.Range.{count};
