@@ -1,4 +1,6 @@
 // What is written for a family sheet: its report, or the line of its refusal.
+#![tactic(auto)]
+
 ghost use Rattle.std.specs.Prelude.{◌≡◌, ◌≤◌, ◌<◌, length};
 ghost use Rattle.columns.specs.Writing.{written};
 ghost use Rattle.family.specs.Buffers.{least_bytes};

@@ -25,7 +25,7 @@ use Rattle.network.specs.Refusals.{network_refusals}
 use Rattle.network.proofs.Acceptance as Acceptance
 use Rattle.components.specs.inner.Filling.{Dated}
 use Rattle.sheet.specs.Sheets.{header_in, nodes, genes, line_no, limits, refusal3, refusal4, refusal5, header_of, whole, node_line, gene_line, cell, cells_of, node_numbered, gene_numbered}
-use Rattle.sheet.specs.declared.Headed.TheVariants.{Header as accepted, Refused as header_refused}
+use Rattle.sheet.specs.declared.Headed.TheVariants.{Header as accepted, Refused as refused_header}
 use Rattle.sheet.proofs.Limits.{limits_is}
 use Rattle.sheet.proofs.Storing.{cells_at}
 use Rattle.sheet.proofs.Refusals.{nodes_told, genes_told, cell_small}
@@ -48,7 +48,7 @@ pub record HeaderIs (s : List ℕ) (h : Header) : Type 0 where
   pub header : h ≡ header_in s
   pub limited : WithinLimits h
 
-no_header : {A : Type 0} {h : Header} {k : ℕ} → accepted h ≡ header_refused k → A
+no_header : {A : Type 0} {h : Header} {k : ℕ} → accepted h ≡ refused_header k → A
 no_header e = let z : ◌≡◌ {A = ℕ} 0 1 = cc in absurd (omega arith)
 
 pub header_is : (s : List ℕ) (h : Header) → accepted h ≡ header_of s → HeaderIs s h
@@ -62,7 +62,7 @@ header_is s h e = by_bool (refusal3 s) (λ t. no_header (rw t at e)) (λ t.
     kind : {g h : Header} → accepted g ≡ accepted h → g ≡ h
     kind e = cc
 
-pub header_refused : (s : List ℕ) (k : ℕ) → header_refused k ≡ header_of s → (k ≢ 0) × ((b w : ℕ) → least_bytes ≤ b → least_words ≤ w → refusal s b w ≡ k)
+pub header_refused : (s : List ℕ) (k : ℕ) → refused_header k ≡ header_of s → (k ≢ 0) × ((b w : ℕ) → least_bytes ≤ b → least_words ≤ w → refusal s b w ≡ k)
 unfolding header_of
 header_refused s k e = by_bool (refusal3 s)
     (λ t. let q : k ≡ 3 = kind (rw t at e) in (λ z. omega arith, λ b w lb lw. refusal_3 s b w lw lb t ∙ sym q))
@@ -70,7 +70,7 @@ header_refused s k e = by_bool (refusal3 s)
     (λ f. let q : k ≡ 4 = kind (rw (t, f) at e) in (λ z. omega arith, λ b w lb lw. refusal_4 s b w lw lb t f ∙ sym q))
     (λ f. no_header (sym (rw (t, f) at e))))
   where
-    kind : {j : ℕ} → header_refused k ≡ header_refused j → k ≡ j
+    kind : {j : ℕ} → refused_header k ≡ refused_header j → k ≡ j
     kind e = cc
 
 module _ (s : List ℕ) (h : Header) (k : HeaderIs s h) where
@@ -168,7 +168,7 @@ words_refused s d u l = refuses _ 1 (contents_of s) d u (refusal_1 s (length d) 
 pub bytes_refused : (s d u : List ℕ) → least_words ≤ length u → length d < least_bytes → OutcomeOf s d d u u (Refused 2)
 bytes_refused s d u lw l = refuses _ 2 (contents_of s) d u (refusal_2 s (length d) (length u) lw l) (λ z. omega arith)
 
-pub header_outcome : (s d u : List ℕ) (k : ℕ) → header_refused k ≡ header_of s → least_bytes ≤ length d → least_words ≤ length u → OutcomeOf s d d u u (Refused k)
+pub header_outcome : (s d u : List ℕ) (k : ℕ) → refused_header k ≡ header_of s → least_bytes ≤ length d → least_words ≤ length u → OutcomeOf s d d u u (Refused k)
 header_outcome s d u k e lb lw = let h = header_refused s k e in refuses _ k (contents_of s) d u (h.1 (length d) (length u) lb lw) h.0
 
 -- a network that passes 6 to 10 is sound

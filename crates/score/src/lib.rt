@@ -1,4 +1,6 @@
 // The call that scores a family sheet: the refusals in the order of checking, then the report and the table of the whole network.
+#![tactic(auto)]
+
 ghost use Rattle.std.specs.Prelude.{◌≡◌, length};
 ghost use Rattle.finite.specs.Refusals.{verdict};
 ghost use Rattle.layout.specs.Lines.{nodes_in};

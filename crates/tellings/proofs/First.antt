@@ -94,11 +94,21 @@ ahead_self : {l k : List Line} → Ahead l k → l ≡ k → ⊥
 ahead_self (here {v} {s} {t} a) e = let q : s ≡ t = cc in never_self (rw q at a)
 ahead_self (later {l} {k} a) e = let q : l ≡ k = cc in ahead_self a q
 
+-- stated of four lists, two and two equal: a match on both needs their indices apart
+ahead_apart : {l k m n : List Line} → Ahead l k → Ahead m n → k ≡ m → l ≡ n → ⊥
+ahead_apart (here {v} {s} {t} a) (here {s = p} {t = q} b) e f =
+    let g : t ≡ p = cc in
+    let h : s ≡ q = cc in
+    never_both a (rw (← g, ← h) at b)
+ahead_apart (here {v} {s} {t} a) (later b) e f = let g : s ≡ t = cc in never_self (rw g at a)
+ahead_apart (later a) (here {v} {s} {t} b) e f = let g : s ≡ t = cc in never_self (rw g at b)
+ahead_apart (later {l = l} {k = k} a) (later {l = m} {k = n} b) p q =
+    let g : k ≡ m = cc in
+    let h : l ≡ n = cc in
+    ahead_apart a b g h
+
 ahead_both : {l k : List Line} → Ahead l k → Ahead k l → ⊥
-ahead_both (here a) (here b) = never_both a b
-ahead_both (here a) (later b) = never_self a
-ahead_both (later a) (here b) = never_self b
-ahead_both (later a) (later b) = ahead_both a b
+ahead_both a b = ahead_apart a b refl refl
 
 not_after_both : {f k : ℕ → List Line} → NotAfter f k → NotAfter k f → (x : ℕ) → f x ≡ k x
 not_after_both (alike e) q = e
