@@ -20,7 +20,6 @@ unfolding refused_line
 length_line k = omega (arith, length-append (columns k) (10 ∷ []), length_columns k)
 
 -- copied to the front of what is lent
-pub copied : (d out line : List ℕ) (k r : ℕ) → line ≡ refused_line k → r ≡ length line → out ≡ take (length line) line ++ drop (length line) d
-    → (out ≡ written d (refused_line k)) × (r ≡ 14)
+pub copied : (d front line : List ℕ) (k : ℕ) → line ≡ refused_line k → front ≡ line → front ++ drop 14 d ≡ written d (refused_line k)
 unfolding written
-copied d out line k r e er eo = (rw (eo, e, take-length (refused_line k)), er ∙ ap length e ∙ length_line k)
+copied d front line k e c = rw (length_line k, c, e)

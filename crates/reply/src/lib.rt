@@ -33,7 +33,8 @@ fn write_refusal(out: &mut [u8], k: u32) -> usize
     ensures { (out.new ≡ written out.old (refused_line k)) × (result ≡ 14) }
 {
     let line = refused_line(k);
-    bytes::copy(&line, out)
+    out[..LINE].copy_from_slice(&line);
+    LINE
 }
 
 // Writes the report of the sheet that is read into a text, or the line of its refusal, and returns how many bytes that is.

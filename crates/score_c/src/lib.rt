@@ -1,4 +1,6 @@
 // The call that scores a sheet, for C and for whatever links C: include/lgt_score.h declares it.
+#![tactic(auto)]
+
 ghost use Rattle.score_c.specs.Exported.{Exported};
 
 // A refusal's number; else the bytes of the report, which are never so few.

@@ -1,0 +1,8 @@
+-- The line is copied to the front, and the rest is as it was.
+-- Assumes nothing.
+use mathlib.Core.Path.{refl}
+use Rattle.reply.proofs.Told.{copied}
+use Rattle.reply.proofs.write_refusal.Goals as goal
+
+pub returns : goal.returns
+returns c = (copied _ _ _ _ c.refused_line-line.ensures c.copy_from_slice.ensures.after, refl)
