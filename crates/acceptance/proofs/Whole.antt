@@ -1,4 +1,4 @@
--- An admitted sheet is what the whole_network cost asks for: a node's arcs out are told by its shape, and a leaf gene has a leaf to rest at.
+-- An admitted sheet is what the whole-network cost asks for: a node's arcs out are told by its shape, and a leaf gene has a leaf to rest at.
 -- Assumes nothing.
 use mathlib.Core.Path.{◌≡◌}
 use Prim.Native.Nat.{ℕ, ◌≤◌}

@@ -1,4 +1,4 @@
-// The arcs of a network as the whole_network cost takes them, in one table: of each node its first and second child by principal arcs and its child by
+// The arcs of a network as the whole-network cost takes them, in one table: of each node its first and second child by principal arcs and its child by
 // a secondary arc, 0 for none, and the nodes in an order in which each comes after its parents.
 #![tactic(auto)]
 

@@ -111,7 +111,7 @@ module _ (h : Header) (lines : List ℕ) (b w : ℕ) (S : Sized h b w) (P : Pass
       seated = rw tree_is (seated L K C admitted);
     }
 
-    -- the whole_network table
+    -- the whole-network table
     pub whole_ready : AcceptedIn h lines genes
     whole_ready = rw tree_is (whole_accepted L K C admitted)
 

@@ -23,7 +23,7 @@ module _ (X : Contents) where
   unfoldable pub gene_tree_in : GeneTree
   gene_tree_in = gene_tree_of X.nodes X.genes
 
-  -- the family as the whole_network cost takes it
+  -- the family as the whole-network cost takes it
   unfoldable pub family_in : Family
   family_in = family_of X.nodes X.genes (gene_tree_of X.nodes X.genes) X.costs
 

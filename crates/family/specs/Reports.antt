@@ -1,7 +1,7 @@
 -- The report of a family that no refusal applies to (01, "The report"), and what it says beyond its bytes.
 -- Assumes nothing.
 use Rattle.std.specs.Prelude.{◌≡◌, List, ◌++◌, ℕ, ◌+◌, ◌≤◌, ◌<◌, get_or}
-use Rattle.finite.specs.Tests.{same, tally}
+use Rattle.finite.specs.Tests.{tally}
 use Rattle.finite.specs.Range.{count}
 use Rattle.topology.specs.Networks.{Node, Reticulation, is_reticulation, reticulations}
 use Rattle.topology.specs.Switchings.{Switching, on_secondary, parent}
@@ -80,5 +80,5 @@ pub record Reported (X : Contents) : Type 0 where
   -- demand 2: "scratch word (g − 1) × n + (v − 1) holds the least cost for gene g starting at node v, or 4,294,967,295 if no history exists", whatever
   -- follows the table
   pub each : (g v : ℕ) → 1 ≤ g → g ≤ X.genes.count → 1 ≤ v → v ≤ X.nodes.size → (rest : List ℕ) → Least (family_in X) g v (cost_of (get_or (words (family_in X) ++ rest) (cell X.nodes.size g v) 0))
-  -- and the whole_network cost is the least over all histories
+  -- and the whole-network cost is the least over all histories
   pub whole : LeastOverall (family_in X) (word (overall (family_in X)))

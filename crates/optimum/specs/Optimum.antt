@@ -1,5 +1,5 @@
 -- The switching that the search reports, and what it means that no other is cheaper (01, "Settings and placement", the search). `cost` is the cost of
--- a whole_network switching, any cost; the last-common-ancestor cost is put in below.
+-- a whole-network switching, any cost; the last-common-ancestor cost is put in below.
 -- Assumes nothing.
 use Rattle.std.specs.Prelude.{◌≡◌, cond, ℕ, ◌^◌, ◌≤◌}
 use Rattle.finite.specs.Tests.{same}

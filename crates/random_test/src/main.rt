@@ -1,5 +1,5 @@
 // Random sheets, each scored by the entry and compared with an enumeration of all settings written apart from the crates under test: its own reading of
-// the sheet, its own placement, costs and components, its own spelling of the report. Every byte of the result is compared, but the whole_network cost is
+// the sheet, its own placement, costs and components, its own spelling of the report. Every byte of the result is compared, but the whole-network cost is
 // taken as reported. The counts expected are those of the independent implementation (compare/run --random-test), which makes the same sheets.
 mod board;
 mod components;
@@ -78,7 +78,7 @@ fn read(sheet: &Text) -> Board {
     t
 }
 
-// Whether the report is the one on the setting that is on, with nothing written after it, nor after the words of the whole_network table.
+// Whether the report is the one on the setting that is on, with nothing written after it, nor after the words of the whole-network table.
 fn right(t: &Board, cost: u32, length: usize, res: &Text, scratch: &[u32; 16129]) -> bool {
     let mut expected = [reports::BYTE; 5952];
     let bytes = reports::spell_report(&mut expected, t, cost, text::number(res, 1, 0));

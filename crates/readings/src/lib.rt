@@ -1,1 +1,3 @@
+#![tactic(auto)]
+
 // No code: the report as 01 words it, beside the definitions that compute it.

@@ -33,7 +33,7 @@ pub record SmallTotals (t : Totals) : Type 0 where
   pub reticulations : t.reticulations < 1000000
   pub components : t.components < 1000000
 
--- "First: cost, duplications, transfers, losses, trials. Second: whole_network cost, n, m, reticulations, components that have any"
+-- "First: cost, duplications, transfers, losses, trials. Second: whole-network cost, n, m, reticulations, components that have any"
 unfoldable pub totals_lines : Totals → List ℕ
 totals_lines t = line_of (five_of t.cost t.duplications t.transfers t.losses t.trials)
     ++ line_of (five_of t.whole t.nodes t.genes t.reticulations t.components)

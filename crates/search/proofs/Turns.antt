@@ -19,7 +19,7 @@ use Rattle.topology.specs.Lines.{network}
 use Rattle.reconciliation.specs.GeneTrees.{GeneTree}
 use Rattle.reconciliation.specs.Costs.{Costs}
 use Rattle.displayed.specs.Model.{lca_cost}
-use Rattle.optimum.specs.Optimum.{assembled, trials_of, settings, trials}
+use Rattle.optimum.specs.Optimum.{assembled, trials_of, settings}
 use Rattle.optimum.proofs.Search.{search_state, last_count, last_best, last_optimal}
 use Rattle.switching.proofs.Turning.{some_held}
 use Rattle.mapping.specs.inner.Climbs.{tree_of}

@@ -8,7 +8,6 @@ use mathlib.Core.Option.{none, some}
 use mathlib.Core.List.{List, [], ◌++◌}
 use Prim.Native.Nat.{ℕ, zero, suc, ◌+◌, ◌-◌, ◌≤◌, ◌<◌}
 use native.Mathlib.Omega.{arith}
-use Rattle.finite.specs.Tests.{same}
 use Rattle.finite.proofs.Tests.{is_same, not_same, same_is}
 use Rattle.histories.specs.Histories.{Gene, tip, pair, Family, Cost, Least, attained, nothing, ◌⊕◌, then as added, least, History, cost}
 use Rattle.histories.specs.inner.Grades.{Graded}

@@ -2,7 +2,6 @@
 -- A switching is 01's "setting" of the whole network.
 -- Assumes nothing.
 use Rattle.std.specs.Prelude.{◌≡◌, ◌≢◌, Bool, true, false, cond, ◌&&◌, ℕ, ◌<◌}
-use Rattle.finite.specs.Tests.{same}
 use Rattle.finite.specs.Range.{children}
 use Rattle.topology.specs.Climbing.{over, meet}
 use Rattle.topology.specs.Networks.{Network, is_reticulation}

@@ -1,7 +1,7 @@
 -- Each line of the sheet written out is a line of one of its three parts, for these are whole lines each (`left_line`, `right_line`): its bytes are the
 -- header's, those of the same line of s, or a gene's. A line that is the line of some numbers has one reading, so these numbers are what is read.
 -- Assumes nothing.
-use Prim.Native.Nat.{ℕ, zero, suc, ◌+◌, ◌-◌, ◌*◌, ◌≤◌, ◌<◌}
+use Prim.Native.Nat.{ℕ, zero, suc, ◌+◌, ◌*◌, ◌≤◌, ◌<◌}
 use mathlib.Core.Path.{◌≡◌, refl, ap, ◌∙◌}
 use mathlib.Core.List.{List, ◌++◌}
 use lib.ListN.{length, take, drop, length-append, length-drop}

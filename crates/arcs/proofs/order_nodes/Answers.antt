@@ -1,6 +1,5 @@
 -- The goals of `order_nodes` that are left: see Invariants.antt for the idea.
 use mathlib.Core.Path.{refl}
-use Prim.Native.Nat.{◌-◌}
 use Rattle.topology.specs.Lines.{network}
 use Rattle.layout.specs.Lines.{nodes_in}
 use Rattle.tables.specs.Columns.{blank}

@@ -1,7 +1,6 @@
 -- `arcs::order_nodes` meets its contract. The loop's invariant: the walk has come to the nodes up to v. The measure is what is left of them.
 -- Assumes nothing.
 use Prim.Native.Nat.{◌-◌, ◌≤◌}
-use Rattle.topology.specs.Lines.{network}
 use Rattle.arcs.specs.inner.Arcs.{network_in}
 use Rattle.arcs.proofs.Walks.{Come}
 use Rattle.arcs.proofs.order_nodes.Given as goal

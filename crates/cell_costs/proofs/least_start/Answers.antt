@@ -1,6 +1,5 @@
 -- The goals of `least_start` that are left: see Invariants.antt for the idea.
 use borrow.Author.Rules.{rules}
-use Prim.Native.Nat.{◌-◌}
 use Rattle.cell_costs.proofs.Starts.{over_loop}
 use Rattle.cell_costs.proofs.least_start.Goals as goal
 

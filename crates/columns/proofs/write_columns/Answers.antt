@@ -1,7 +1,6 @@
 -- The goals of `write_columns` that are left: see Invariants.antt for the idea.
-use Prim.Native.Nat.{◌-◌}
 use mathlib.Core.Path.{refl}
-use lib.ListN.{length, drop, length-set}
+use lib.ListN.{drop, length-set}
 use Rattle.columns.specs.Fields.{columns}
 use Rattle.columns.proofs.Writing.{columns_none, columns_turn, columns_done}
 use borrow.Author.Rules.{rules}

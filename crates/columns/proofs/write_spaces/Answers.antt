@@ -1,8 +1,7 @@
 -- The goals of `write_spaces` that are left: see Invariants.antt for the idea.
-use Prim.Native.Nat.{◌-◌}
 use mathlib.Core.Path.{refl, ◌∙◌}
-use lib.ListN.{length, replicate, length-set}
-use lib.Seq.{paste, paste-zero}
+use lib.ListN.{replicate, length-set}
+use lib.Seq.{paste-zero}
 use Rattle.columns.specs.inner.Scans.{front_count}
 use Rattle.columns.proofs.Writing.{repeat_turn, paste_done, put_front}
 use borrow.Author.Rules.{rules}

@@ -1,5 +1,4 @@
 -- The goals of `counts` that are left: see Invariants.antt for the idea.
-use Prim.Native.Nat.{◌-◌}
 use Rattle.components.proofs.Filling.{parted_done}
 use borrow.Author.Rules.{rules}
 use Rattle.components.proofs.counts.Goals as goal

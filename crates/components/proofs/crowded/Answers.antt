@@ -1,5 +1,4 @@
 -- The goals of `crowded` that are left: see Invariants.antt for the idea.
-use Prim.Native.Nat.{◌-◌}
 use Rattle.finite.proofs.Every.{some_start}
 use Rattle.components.proofs.Filling.{crowded_stop, crowded_turn, crowded_done}
 use borrow.Author.Rules.{rules}

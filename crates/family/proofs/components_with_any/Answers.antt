@@ -7,8 +7,6 @@ use Rattle.layout.specs.inner.Parts.{reticulation_count}
 use Rattle.finite.specs.Tests.{same}
 use mathlib.Core.Bool.{not}
 use Rattle.finite.proofs.Count.{count_start, count_turn, count_done}
-use Rattle.finite.specs.Range.{count}
-use Prim.Native.Nat.{◌-◌}
 use Rattle.family.proofs.components_with_any.Goals as goal
 
 pub loop-v-init : goal.loop-v-init

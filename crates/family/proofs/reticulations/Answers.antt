@@ -5,13 +5,12 @@ use Rattle.layout.specs.Lines.{secondary, nodes_in}
 use Rattle.topology.specs.Lines.{network}
 use Rattle.topology.specs.Networks.{is_reticulation}
 use Rattle.finite.proofs.Count.{count_start, count_turn, count_done}
-use Rattle.finite.specs.Range.{count}
 use mathlib.Core.Path.{◌≡◌, ◌∙◌}
 use mathlib.Core.Bool.{not}
 use mathlib.Core.List.{List}
 use native.Mathlib.Omega.{arith}
 use Rattle.finite.specs.Tests.{same, tally}
-use Prim.Native.Nat.{ℕ, ◌+◌, ◌-◌, ◌<◌}
+use Prim.Native.Nat.{ℕ, ◌+◌, ◌<◌}
 use Rattle.family.proofs.reticulations.Goals as goal
 
 reticulation-told : (n : ℕ) (l : List ℕ) (v x : ℕ) → v < n → x ≡ secondary l (v + 1) → tally (not (same x 0)) ≡ tally (is_reticulation (network (nodes_in n l)) (v + 1))

@@ -1,5 +1,4 @@
 -- The goals of `thirteen` that are left: see Invariants.antt for the idea.
-use Prim.Native.Nat.{◌-◌}
 use Rattle.gene_tree.proofs.Reading.{thirteen_loop}
 use borrow.Author.Rules.{rules}
 use Rattle.gene_tree.proofs.thirteen.Goals as goal

@@ -1,5 +1,4 @@
 -- The goals of `twelve` that are left: see Invariants.antt for the idea.
-use Prim.Native.Nat.{◌-◌}
 use Rattle.gene_tree.proofs.Reading.{twelve_loop}
 use borrow.Author.Rules.{rules}
 use Rattle.gene_tree.proofs.twelve.Goals as goal

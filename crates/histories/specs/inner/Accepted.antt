@@ -1,4 +1,4 @@
--- What the whole_network cost takes from the checks of a network and a gene tree (01, refusals 4 to 13).
+-- What the whole-network cost takes from the checks of a network and a gene tree (01, refusals 4 to 13).
 -- Assumes nothing.
 use Rattle.std.specs.Prelude.{◌≡◌, ℕ, ◌≤◌}
 use Rattle.finite.specs.Range.{children}

@@ -1,6 +1,5 @@
 -- The goals of `seat_leaves` that are left: see Invariants.antt for the idea.
 use native.Mathlib.Omega.{arith}
-use Prim.Native.Nat.{◌-◌}
 use Rattle.mapping.proofs.Evaluating.{leaves_start, leaves_done}
 use borrow.Author.Rules.{rules}
 use Rattle.mapping.proofs.seat_leaves.Goals as goal

@@ -1,5 +1,4 @@
 -- The goals of `numeral` that are left: see Invariants.antt for the idea.
-use Prim.Native.Nat.{◌-◌}
 use native.Mathlib.Omega.{arith}
 use Rattle.newick.proofs.Digits.{ten, leaf_less, leaf_more, leaf_first, more_less, more_more, more_turn, more_end, next_digit, small_digits, inside_digit}
 use borrow.Author.Rules.{rules}

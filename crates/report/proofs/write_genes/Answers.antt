@@ -1,9 +1,7 @@
 -- The goals of `write_genes` that are left: see Invariants.antt for the idea.
-use Prim.Native.Nat.{◌+◌, ◌-◌}
+use Prim.Native.Nat.{◌+◌}
 use mathlib.Core.Path.{refl}
 use native.Mathlib.Omega.{arith}
-use lib.ListN.{length}
-use Rattle.report.specs.Reports.{always}
 use Rattle.report.proofs.Writing.{lines_start, lines_turn, lines_done, lines_room, lines_length, room_always}
 use borrow.Author.Rules.{rules}
 use Rattle.report.proofs.write_genes.Goals as goal

@@ -1,8 +1,7 @@
 -- The goals of `write_reticulations` that are left: see Invariants.antt for the idea.
-use Prim.Native.Nat.{◌+◌, ◌-◌}
+use Prim.Native.Nat.{◌+◌}
 use mathlib.Core.Path.{refl}
 use native.Mathlib.Omega.{arith}
-use lib.ListN.{length}
 use Rattle.report.proofs.Writing.{lines_start, lines_done, lines_length, node_room, node_turn}
 use borrow.Author.Rules.{rules}
 use Rattle.report.proofs.write_reticulations.Goals as goal

@@ -2,7 +2,6 @@
 use native.Mathlib.Omega.{arith}
 use mathlib.Core.Path.{refl, ◌∙◌}
 use Rattle.search.proofs.Turns.{few_reticulations, tried_is, tried_still, awaits, finishes}
-use Prim.Native.Nat.{◌-◌}
 use Rattle.search.proofs.component.Goals as goal
 
 pub overflow_add-s : goal.overflow_add-s

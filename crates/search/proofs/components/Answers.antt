@@ -1,7 +1,6 @@
 -- The goals of `components` that are left: see Invariants.antt for the idea.
 use native.Mathlib.Omega.{arith}
 use Rattle.search.proofs.Turns.{begins, ends}
-use Prim.Native.Nat.{◌-◌}
 use mathlib.Core.Path.{refl}
 use Rattle.search.proofs.components.Goals as goal
 

@@ -1,7 +1,4 @@
 -- The goals of `genes_in_order` that are left: see Invariants.antt for the idea.
-use Prim.Native.Nat.{◌-◌}
-use mathlib.Core.Bool.{true}
-use Rattle.finite.specs.Range.{every}
 use Rattle.finite.proofs.Every.{every_start, every_turn_not, every_stop_not, every_done}
 use Rattle.sheet.proofs.Reading.{gene_told}
 use borrow.Author.Rules.{rules}

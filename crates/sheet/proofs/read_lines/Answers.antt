@@ -1,5 +1,5 @@
 -- The goals of `read_lines` that are left: see Invariants.antt for the idea.
-use Prim.Native.Nat.{◌+◌, ◌-◌}
+use Prim.Native.Nat.{◌+◌}
 use mathlib.Core.Path.{refl, ap, ◌∙◌}
 use lib.ListN.{length}
 use Rattle.sheet.proofs.Storing.{length_lines, lines_start, all_start, lines_turn, all_turn, lines_done}

@@ -1,7 +1,4 @@
 -- The goals of `principal_parents` that are left: see Invariants.antt for the idea.
-use Prim.Native.Nat.{◌-◌}
-use Rattle.tables.specs.Columns.{column}
-use Rattle.layout.specs.Lines.{principal}
 use Rattle.tables.proofs.Columns.{column_none, column_more, column_end}
 use Rattle.switching.proofs.Starting.{principal_low}
 use borrow.Author.Rules.{rules}

@@ -1,7 +1,4 @@
 -- The goals of `ranks` that are left: see Invariants.antt for the idea.
-use Prim.Native.Nat.{◌-◌}
-use Rattle.tables.specs.Columns.{column}
-use Rattle.layout.specs.inner.Parts.{rank}
 use Rattle.tables.proofs.Columns.{column_none, column_more, column_end}
 use borrow.Author.Rules.{rules}
 use Rattle.switching.proofs.ranks.Goals as goal

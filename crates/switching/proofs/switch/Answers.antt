@@ -1,5 +1,4 @@
 -- The goals of `switch` that are left: see Invariants.antt for the idea.
-use Prim.Native.Nat.{◌-◌}
 use Rattle.topology.specs.Lines.{network}
 use Rattle.layout.specs.Lines.{nodes_in}
 use Rattle.switching.proofs.Settings.{turned_start, turned_end}

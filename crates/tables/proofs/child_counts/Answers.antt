@@ -1,7 +1,5 @@
 -- The goals of `child_counts` that are left: see Invariants.antt for the idea.
-use Prim.Native.Nat.{◌-◌}
 use mathlib.Core.Path.{◌∙◌}
-use Rattle.tables.specs.Columns.{spaced}
 use Rattle.tables.proofs.Columns.{spaced_in, kept_none}
 use Rattle.tables.proofs.Counts.{counted_start, counted_turn, counted_few, counted_done, kept_raised}
 use borrow.Author.Rules.{rules}

@@ -1,8 +1,5 @@
 -- The goals of `count_of` that are left: see Invariants.antt for the idea.
-use Prim.Native.Nat.{◌-◌}
-use Rattle.finite.specs.Range.{children}
 use Rattle.finite.proofs.Count.{children_start, children_turn, children_done}
-use Rattle.tables.specs.Columns.{spaced}
 use Rattle.tables.proofs.Columns.{spaced_in}
 use borrow.Author.Rules.{rules}
 use Rattle.tables.proofs.count_of.Goals as goal

@@ -1,6 +1,5 @@
 -- The goals of `next_children` that are left: see Invariants.antt for the idea.
 use mathlib.Core.Path.{◌∙◌}
-use Rattle.tables.specs.Columns.{spaced}
 use Rattle.tables.proofs.Columns.{spaced_in, kept_none}
 use Rattle.tables.proofs.Nexts.{noted_start, next_turn, noted_done}
 use borrow.Author.Rules.{rules}

@@ -1,8 +1,7 @@
 -- The goals of `no_line` that are left: see Invariants.antt for the idea.
-use Prim.Native.Nat.{◌-◌}
 use mathlib.Core.Path.{refl}
-use lib.ListN.{length, replicate, length-set}
-use lib.Seq.{paste, paste-zero}
+use lib.ListN.{replicate, length-set}
+use lib.Seq.{paste-zero}
 use Rattle.text_lines.specs.Lines.{field_count, malformed}
 use Rattle.columns.proofs.Writing.{repeat_turn, paste_done}
 use borrow.Author.Rules.{rules}

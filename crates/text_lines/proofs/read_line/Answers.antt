@@ -1,7 +1,6 @@
 -- The goals of `read_line` that are left: see Invariants.antt for the idea.
-use Prim.Native.Nat.{◌-◌}
 use mathlib.Core.Path.{refl}
-use lib.ListN.{length, length-set}
+use lib.ListN.{length-set}
 use Rattle.text_lines.proofs.Lines.{read_start, read_turn, read_stop, read_unended, read_done, line_told}
 use borrow.Author.Rules.{rules}
 use Rattle.text_lines.proofs.read_line.Goals as goal

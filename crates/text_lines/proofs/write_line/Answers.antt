@@ -1,7 +1,6 @@
 -- The goals of `write_line` that are left: see Invariants.antt for the idea.
-use Prim.Native.Nat.{◌+◌, ◌-◌, ◌*◌}
+use Prim.Native.Nat.{◌+◌, ◌*◌}
 use mathlib.Core.Path.{refl}
-use Rattle.columns.specs.Writing.{written}
 use Rattle.text_lines.specs.Lines.{fields_of}
 use Rattle.columns.proofs.Writing.{written_nil}
 use Rattle.text_lines.proofs.Lines.{write_turn, write_room, write_done}

@@ -1,5 +1,4 @@
 -- The goals of `non_tops` that are left: see Invariants.antt for the idea.
-use Prim.Native.Nat.{◌-◌}
 use Rattle.components.proofs.Ways.{ways_none, ways_end}
 use borrow.Author.Rules.{rules}
 use Rattle.components.proofs.climbs.non_tops.Goals as goal

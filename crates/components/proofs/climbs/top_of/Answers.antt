@@ -1,5 +1,4 @@
 -- The goals of `top_of` that are left: see Invariants.antt for the idea.
-use Prim.Native.Nat.{◌-◌}
 use Rattle.components.proofs.Ways.{top_end, up_low, up_high, up_less, up_same}
 use Rattle.components.proofs.climbs.top_of.Goals as goal
 

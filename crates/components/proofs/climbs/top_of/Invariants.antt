@@ -1,6 +1,6 @@
 -- `components::climbs::top_of` meets its contract. A marked node is no top, so its component is that of its principal parent, whose rank is less.
 -- Assumes nothing.
-use Prim.Native.Nat.{◌-◌, ◌≤◌}
+use Prim.Native.Nat.{◌≤◌}
 use mathlib.Core.Path.{◌≡◌}
 use Rattle.topology.specs.Lines.{network}
 use Rattle.layout.specs.Lines.{nodes_in}

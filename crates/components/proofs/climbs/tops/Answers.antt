@@ -1,7 +1,5 @@
 -- The goals of `tops` that are left: see Invariants.antt for the idea.
-use Prim.Native.Nat.{◌-◌}
 use Rattle.finite.specs.Tables.{zeros}
-use Rattle.tables.specs.Columns.{column}
 use Rattle.tables.proofs.Columns.{column_none, column_more, column_end}
 use borrow.Author.Rules.{rules}
 use Rattle.components.proofs.climbs.tops.Goals as goal

@@ -1,8 +1,7 @@
 -- The goals of `seven` that are left: see Invariants.antt for the idea.
-use Prim.Native.Nat.{◌-◌}
 use Rattle.finite.proofs.Every.{some_loop}
 use Rattle.layout.specs.Lines.{nodes_in}
-use Rattle.network.specs.Refusals.{refusal7, bad_stamps_at}
+use Rattle.network.specs.Refusals.{refusal7}
 use borrow.Author.Rules.{rules}
 use Rattle.network.proofs.parents.seven.Goals as goal
 

@@ -1,5 +1,4 @@
 -- The goals of `some_bad_parents` that are left: see Invariants.antt for the idea.
-use Prim.Native.Nat.{◌-◌}
 use mathlib.Core.Bool.{false}
 use Rattle.finite.proofs.Every.{some_start, some_turn, some_stop, some_done}
 use Rattle.network.proofs.AsRead.{parents_read}

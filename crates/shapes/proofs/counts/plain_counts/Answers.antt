@@ -1,5 +1,4 @@
 -- The goals of `plain_counts` that are left: see Invariants.antt for the idea.
-use Prim.Native.Nat.{◌-◌}
 use mathlib.Core.Path.{◌∙◌}
 use Rattle.tables.proofs.Columns.{kept_none}
 use Rattle.tables.proofs.Counts.{counted_start, counted_turn, counted_few, counted_done, kept_raised}

@@ -1,10 +1,7 @@
 -- The goals of `nine` that are left: see Invariants.antt for the idea.
-use Prim.Native.Nat.{◌-◌}
 use mathlib.Core.Path.{◌∙◌}
-use mathlib.Core.Bool.{false}
 use Rattle.finite.proofs.Every.{some_stop, some_done, some_loop}
 use Rattle.layout.specs.Lines.{nodes_in}
-use Rattle.shapes.specs.inner.ShortForms.{wrong_species_at}
 use Rattle.shapes.proofs.ShortForms.{wrong_iff}
 use borrow.Author.Rules.{rules}
 use Rattle.shapes.proofs.refusals.nine.Goals as goal

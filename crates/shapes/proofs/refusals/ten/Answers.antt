@@ -1,6 +1,4 @@
 -- The goals of `ten` that are left: see Invariants.antt for the idea.
-use Prim.Native.Nat.{◌-◌}
-use mathlib.Core.Bool.{false}
 use Rattle.finite.proofs.Every.{some_start, some_turn, some_stop, some_done}
 use Rattle.shapes.proofs.AsRead.{only_told}
 use borrow.Author.Rules.{rules}
