@@ -11,7 +11,7 @@ use lib.Seq.{take_all}
 use native.Mathlib.Omega.{arith}
 use Rattle.finite.proofs.Tests.{is_under, not_under}
 use Rattle.finite.proofs.Cases.{by_eq, by_less}
-use Rattle.histories.specs.Histories.{Cost, ◌lesser◌, then, both}
+use Rattle.histories.specs.Histories.{Cost, ◌lesser◌, ◌⊕◌, then, both}
 use Rattle.histories.specs.Words.{no_history, cost_of}
 use Rattle.histories.specs.inner.Rows.{cost_at, Small, Cell}
 use Rattle.histories.proofs.Words.{cost_none, cost_some}

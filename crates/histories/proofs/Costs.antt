@@ -7,7 +7,7 @@ use Prim.Native.Nat.{ℕ, ◌+◌, ◌≤◌, min}
 use native.Mathlib.Nat.{le_antisymm}
 use native.Mathlib.Omega.{arith}
 use native.Mathlib.Decide.{dec_le}
-use Rattle.histories.specs.Histories.{Cost, ◌lesser◌, then, both}
+use Rattle.histories.specs.Histories.{Cost, ◌lesser◌, ◌⊕◌, then, both}
 
 -- a cost is finite, and at most c
 pub data AtMost (c : ℕ) : Cost → Type 0 where

@@ -11,7 +11,7 @@ use native.Mathlib.Omega.{arith}
 use lib.ListN.{length, get_or}
 use Rattle.finite.specs.Tables.{at}
 use Rattle.finite.proofs.Cases.{by_eq}
-use Rattle.histories.specs.Histories.{Family, Gene, tip, pair, Cost, then as added, least, overall}
+use Rattle.histories.specs.Histories.{Family, Gene, tip, pair, Cost, ◌⊕◌, then as added, least, overall}
 use Rattle.histories.specs.inner.Grades.{Graded}
 use Rattle.reconciliation.specs.Limits.{Limits}
 use Rattle.tellings.specs.inner.Lineages.{Levels}

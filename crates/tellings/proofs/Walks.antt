@@ -10,7 +10,7 @@ use native.Mathlib.Omega.{arith}
 use Rattle.finite.specs.Tables.{at}
 use Rattle.finite.proofs.Cases.{by_eq, by_bool, clash}
 use Rattle.topology.proofs.Climbing.{over_low, over_child}
-use Rattle.histories.specs.Histories.{Family, Out, leaf, one, two, mixed, Gene, tip, pair, then as added, least}
+use Rattle.histories.specs.Histories.{Family, Out, leaf, one, two, mixed, Gene, tip, pair, ◌⊕◌, then as added, least}
 use Rattle.histories.specs.inner.Grades.{Graded}
 use Rattle.tellings.specs.inner.Lineages.{Lineage}
 use Rattle.tellings.specs.Steps.{Step, duplicates, step_cost, Line, line, own}
