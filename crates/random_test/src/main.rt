@@ -6,7 +6,7 @@
 ghost use Rattle.std.specs.Prelude.{◌≤◌};
 
 mod board;
-mod components;
+mod cuts;
 mod draws;
 mod families;
 mod gene_trees;
@@ -94,7 +94,7 @@ fn scored(counts: &mut Board, sheet: &Text, length: usize, res: &Text, scratch: 
     let all = settings::settings(board::reticulations(&t));
     let best = settings::enumerate(&mut t, all);
     let cost = settings::try_setting(&mut t, best.setting);
-    components::find_tops(&mut t);
+    cuts::find_tops(&mut t);
     let good = right(&t, cost, length, res, scratch);
     count(counts, SCORED, 1);
     count(counts, SETTINGS, all);

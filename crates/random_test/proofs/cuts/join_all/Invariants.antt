@@ -1,7 +1,7 @@
 -- The counter ends the loop.
 -- Assumes nothing.
 use Rattle.std.proofs.Common.{◌≤◌}
-use Rattle.random_test.proofs.components.join_all.Given as goal
+use Rattle.random_test.proofs.cuts.join_all.Given as goal
 
 abbrev pub invariant-loop-w : goal.invariant-loop-w
 invariant-loop-w l = l.w ≤ l.initial.w
