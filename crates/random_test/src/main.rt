@@ -1,8 +1,12 @@
 // Random sheets, each scored by the entry and compared with an enumeration of all settings written apart from the crates under test: its own reading of
 // the sheet, its own placement, costs and components, its own spelling of the report. Every byte of the result is compared, but the whole-network cost is
 // taken as reported. The counts expected are those of the independent implementation (compare/run --random-test), which makes the same sheets.
+#![tactic(auto)]
+
+ghost use Rattle.std.specs.Prelude.{◌≤◌};
+
 mod board;
-mod components;
+mod cuts;
 mod draws;
 mod families;
 mod gene_trees;
@@ -11,15 +15,12 @@ mod reports;
 mod settings;
 mod text;
 
-ghost use Rattle.std.specs.Prelude.{◌≤◌};
-
 use answer::Answer;
 use board::{
     Board, GENES, HEADER, KIND, MOTHER, NODES, PRINCIPAL, SECONDARY, SPECIES, add, get, set, times,
 };
+use std::io;
 use text::Text;
-
-const STDOUT: i32 = 1;
 
 const SHEETS: u32 = 10000;
 
@@ -93,7 +94,7 @@ fn scored(counts: &mut Board, sheet: &Text, length: usize, res: &Text, scratch: 
     let all = settings::settings(board::reticulations(&t));
     let best = settings::enumerate(&mut t, all);
     let cost = settings::try_setting(&mut t, best.setting);
-    components::find_tops(&mut t);
+    cuts::find_tops(&mut t);
     let good = right(&t, cost, length, res, scratch);
     count(counts, SCORED, 1);
     count(counts, SETTINGS, all);
@@ -138,24 +139,24 @@ fn try_all(counts: &mut Board) {
 }
 
 // A name in ten columns and a count in six.
-fn show(name: &[u8; 10], counts: &Board, i: u32) {
+fn show(rt: &impl Print, name: &[u8; 10], counts: &Board, i: u32) -> io::Result<()> {
     let mut line = [0u8; 7];
     line[6] = b'\n';
     columns::write_field(&mut line, get(counts, COUNTS, i) % 1000000);
-    io::write_all(STDOUT, name);
-    io::write_all(STDOUT, &line);
+    rt.write_all(name)?;
+    rt.write_all(&line)
 }
 
-fn main() {
+fn main(rt: HostRuntime) -> io::Result<()> {
     let mut counts = [0u32; 1024];
     try_all(&mut counts);
-    show(b"sheets    ", &counts, MADE);
-    show(b"scored    ", &counts, SCORED);
-    show(b"refused   ", &counts, REFUSED);
-    show(b"numbers   ", &counts, NUMBERS);
-    show(b"settings  ", &counts, SETTINGS);
-    show(b"secondary ", &counts, SWITCHED);
-    show(b"ties      ", &counts, TIES);
-    show(b"costs     ", &counts, COSTS);
-    show(b"mismatches", &counts, MISMATCHES);
+    show(&rt, b"sheets    ", &counts, MADE)?;
+    show(&rt, b"scored    ", &counts, SCORED)?;
+    show(&rt, b"refused   ", &counts, REFUSED)?;
+    show(&rt, b"numbers   ", &counts, NUMBERS)?;
+    show(&rt, b"settings  ", &counts, SETTINGS)?;
+    show(&rt, b"secondary ", &counts, SWITCHED)?;
+    show(&rt, b"ties      ", &counts, TIES)?;
+    show(&rt, b"costs     ", &counts, COSTS)?;
+    show(&rt, b"mismatches", &counts, MISMATCHES)
 }

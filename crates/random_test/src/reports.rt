@@ -3,7 +3,7 @@ use super::board::{
     Board, EVENT, GENES, HEADER, LOSSES, NODES, ON, PLACE, SECONDARY, TOP, TRANSFERS, UP, get,
     occurrences, reticulations, total,
 };
-use super::components::add_up;
+use super::cuts::add_up;
 use super::settings::DUPLICATED;
 use super::text::{Text, byte, spell, start_of};
 

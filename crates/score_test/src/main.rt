@@ -3,12 +3,14 @@
 // there by enumerating all settings. First stand 31 worked out by hand, each with the reason that it is there (compare/src/worked.rs): known sheets,
 // networks for each refusal from 6 to 11, settings that tie, components of 8 and of 5. Then 113 from a generator: deep and wide networks, many components,
 // components of 8, n = m = 127, and damaged sheets for every refusal.
+#![tactic(auto)]
+
 ghost use Rattle.std.specs.Prelude.{◌<◌};
 
 use answer::Answer;
+use std::rt::Files;
+use std::{env, io};
 use test_files::Got;
-
-const STDOUT: i32 = 1;
 
 // The room for a sheet: a byte more than the longest has.
 const SHEET: usize = 7906;
@@ -22,12 +24,12 @@ const UNTOUCHED: u32 = 4294967294;
 const NO_HISTORY: u32 = 4294967295;
 
 // A number in six columns, then a byte.
-fn show(number: u32, end: u8)
+fn show(rt: &impl Print, number: u32, end: u8) -> io::Result<()>
     requires { number < 1000000 }
 {
     let mut field = [0, 0, 0, 0, 0, 0, end];
     columns::write_field(&mut field, number);
-    io::write_all(STDOUT, &field);
+    rt.write_all(&field)
 }
 
 // What stands for a word that is no cost.
@@ -41,12 +43,11 @@ fn mark(word: u32) -> u8 {
     b'?'
 }
 
-fn show_word(word: u32, end: u8) {
+fn show_word(rt: &impl Print, word: u32, end: u8) -> io::Result<()> {
     if word < 1000000 {
-        show(word, end);
-        return;
+        return show(rt, word, end);
     }
-    io::write_all(STDOUT, &[b' ', b' ', b' ', b' ', b' ', mark(word), end]);
+    rt.write_all(&[b' ', b' ', b' ', b' ', b' ', mark(word), end])
 }
 
 // What follows word i: ten stand in a line.
@@ -57,53 +58,44 @@ fn end(i: usize) -> u8 {
     b' '
 }
 
-fn show_words(scratch: &[u32; 16129]) {
-    let mut i: usize = 0;
-    while i < SHOWN {
-        show_word(scratch[i], end(i));
-        i += 1;
+fn show_words(rt: &impl Print, scratch: &[u32; 16129]) -> io::Result<()> {
+    for i in 0..SHOWN {
+        show_word(rt, scratch[i], end(i))?;
     }
+    Ok(())
 }
 
-fn score_one(sheet: &[u8]) {
+fn score_one(rt: &impl Print, sheet: &[u8]) -> io::Result<()> {
     let mut result = [0u8; 5952];
     let mut scratch = [UNTOUCHED; 16129];
     let answer = score::score(sheet, &mut result, &mut scratch);
     match answer {
         Answer::Report(length) => {
-            io::write_all(STDOUT, &result[..length]);
-            show_words(&scratch);
+            rt.write_all(&result[..length])?;
+            show_words(rt, &scratch)
         }
-        Answer::Refused(k) => {
-            show(k, b'\n');
-        }
+        Answer::Refused(k) => show(rt, k, b'\n'),
     }
 }
 
 // Writes the name, and what is told of it.
-fn tell(word: usize, told: &[u8]) {
-    let mut name = [0u8; 64];
-    let length = os::arg(word, &mut name);
-    io::write_all(STDOUT, &name[..length]);
-    io::write_all(STDOUT, told);
+fn tell(rt: &impl Print, name: &str, told: &str) -> io::Result<()> {
+    println!(rt; "{name}{told}")
 }
 
 // Scores the sheet of a name.
-fn score_named(word: usize) {
+fn score_named<R: Files + Alloc + Print>(rt: &R, name: &str) -> io::Result<()> {
     let mut sheet = [0u8; SHEET];
-    let Got::Bytes(bytes) = test_files::read(word, b".sheet", &mut sheet) else {
-        tell(word, b" is missing\n");
-        return;
+    let Got::Bytes(bytes) = test_files::read(rt, name, ".sheet", &mut sheet)? else {
+        return tell(rt, name, " is missing");
     };
-    tell(word, b"\n");
-    score_one(&sheet[..bytes]);
+    tell(rt, name, "")?;
+    score_one(rt, &sheet[..bytes])
 }
 
-fn main() {
-    let words = os::arg_count();
-    let mut i: usize = 1;
-    while i < words {
-        score_named(i);
-        i += 1;
+fn main(rt: HostRuntime) -> io::Result<()> {
+    for name in env::args(&rt)?.skip(1) {
+        score_named(&rt, name.as_str())?;
     }
+    Ok(())
 }

@@ -1,0 +1,10 @@
+-- The counter ends the loop.
+-- Assumes nothing.
+use Rattle.std.proofs.Common.{◌≤◌}
+use Rattle.random_test.proofs.cuts.find_tops.Given as goal
+
+abbrev pub invariant-loop-v : goal.invariant-loop-v
+invariant-loop-v l = l.v ≤ l.initial.v
+
+abbrev pub decreases-loop-v : goal.decreases-loop-v
+decreases-loop-v l = l.v

@@ -1,0 +1,10 @@
+-- The counter ends the loop.
+-- Assumes nothing.
+use Rattle.std.proofs.Common.{◌-◌, ◌≤◌}
+use Rattle.random_test.proofs.text.number.Given as goal
+
+abbrev pub invariant-loop-at : goal.invariant-loop-at
+invariant-loop-at l = l.initial.at ≤ l.at
+
+abbrev pub decreases-loop-at : goal.decreases-loop-at
+decreases-loop-at l = 6 - l.at
