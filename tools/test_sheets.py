@@ -1,16 +1,18 @@
 #!/usr/bin/env python3
-"""Makes sheets for the test program reply_test, and lists all of sheets/ for it.
+"""Makes sheets for the test program reply_test, and hands all of sheets/ to it.
 
     tools/test_sheets.py         from the root of the repository
 
 A sheet sheets/NAME.sheet has beside it what the program must write for it, sheets/NAME.report. To add one, write both files, the report from
-the rules and not from the program, and run this: it lists every sheet in the test program's arguments and expected output. The sheets named
+the rules and not from the program, and run this: it copies sheets/ to the test program's data/, since the gate reads no file outside a crate and
+follows no link, and lists every sheet in its arguments and expected output. The sheets named
 refused-* and longest* are made here, their replies worked out from the rules: a refusal's number by the one thing that is wrong with its
 sheet, and the longest sheets' reports from their making (the gene tree is the species tree, so every gene sits at the node that it was made with,
 and nothing is lost).
 """
 import glob
 import os
+import shutil
 
 
 def line(*numbers):
@@ -128,6 +130,8 @@ def main():
             with open(f"sheets/{name}.{ending}", "w", newline="") as file:
                 file.write(content)
     names = sorted(os.path.basename(path)[: -len(".sheet")] for path in glob.glob("sheets/*.sheet"))
+    shutil.rmtree("crates/reply_test/data")
+    shutil.copytree("sheets", "crates/reply_test/data")
     for file, told in (("args", ""), ("stdout", ": as expected")):
         with open(f"crates/reply_test/{file}", "w") as listed:
             listed.writelines(f"{name}{told}\n" for name in names)

@@ -1,6 +1,7 @@
 //! The known sheets of the rules and the others worked out by hand, and the limits around them.
 
 use std::fs;
+use std::path::Path;
 
 use compare::reference::sheet::Sheet;
 use compare::reference::{self, RESULT_BYTES, SCRATCH_WORDS};
@@ -50,7 +51,7 @@ fn sheets_worked_out_by_hand() {
     }
 }
 
-/// Every sheet of sheets/ comes to the report beside it.
+/// Every sheet of sheets/ comes to the report beside it, and both are what the test program reads.
 #[test]
 fn sheets_and_their_reports() {
     let mut compared = 0;
@@ -61,6 +62,10 @@ fn sheets_and_their_reports() {
             let sheet = fs::read(&path).expect("a sheet");
             let reply = answer(&sheet).unwrap_or_else(|refusal| format!("refused{refusal:6}\n"));
             assert_eq!(reply, report, "{}", path.display());
+            for (of, text) in [(&path, &sheet), (&path.with_extension("report"), &report.into_bytes())] {
+                let copy = Path::new("../crates/reply_test/data").join(of.file_name().expect("a name"));
+                assert_eq!(&fs::read(&copy).expect("a copy for the test program"), text, "{}", copy.display());
+            }
             compared += 1;
         }
     }
