@@ -125,7 +125,7 @@ def put(text, name, term, unfolds=None):
     lines = block.split("\n")
     at = next(i for i, line in enumerate(lines) if CLAUSE.match(line))
     left = next(line for line in lines[at + 1 :] if line.startswith(name + " ")).split(" =")[0]
-    new = "\n".join(lines[: at + 1] + ([unfolds] if unfolds else []) + [f"{left} = {term}"])
+    new = "\n".join(lines[: at + 1] + ([unfolds] if unfolds else []) + [f"{left} = {term}".replace(" = \n", " =\n", 1)])
     return text.replace(block, new) if block in text else f"{text.rstrip()}\n\n{new}\n"
 
 
@@ -144,3 +144,19 @@ def with_head(text, lines):
     while own[0].startswith("-- "):
         comments.append(own.pop(0))
     return "\n".join(comments + uses + own)
+
+
+def offered(crate, output):
+    """Writes what the output offers into the proof files; tells whether there was any."""
+    written = False
+    for path, text in offers(output):
+        path = f"crates/{crate}/{path}"
+        old = read(path)
+        if old:
+            names = {name for name, _ in blocks(old)} - {None}
+            head, *asked = [block for name, block in blocks(text) if name not in names]
+            text = with_head(old, head.split("\n")).rstrip() + "\n\n" + "\n\n".join(asked)
+        write(path, text.rstrip() + "\n")
+        print("wrote to" if old else "wrote", path)
+        written = True
+    return written
