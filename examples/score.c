@@ -1,8 +1,9 @@
 /*
  * Scores the family sheet in a file and writes its report; a refusal is named on standard error. From the root of the repository:
  *
- *   rt staticlib score_c
- *   cc -I crates/score_c/include examples/score.c target/staticlib/libscore_c.a -o target/score_from_c
+ *   (cd crates/score_c && rt lib)
+ *   mkdir -p target
+ *   cc -I crates/score_c/include examples/score.c crates/score_c/out/libscore_c.a -o target/score_from_c
  *   target/score_from_c sheets/k.sheet
  *
  * It is C and C++ at once: `c++ -x c++` in the place of `cc` does as well, with `-x none` before the library.

@@ -2,8 +2,9 @@
 """Scores the family sheet in a file and writes its report, then with --table the least cost of each gene from each node. From the root of
 the repository:
 
-    rt staticlib score_c
-    cc -shared -o target/liblgt_score.so -Wl,--whole-archive target/staticlib/libscore_c.a -Wl,--no-whole-archive
+    (cd crates/score_c && rt lib)
+    mkdir -p target
+    cc -shared -o target/liblgt_score.so -Wl,--whole-archive crates/score_c/out/libscore_c.a -Wl,--no-whole-archive
     python3 examples/score.py sheets/k.sheet --table
 """
 import ctypes

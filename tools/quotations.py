@@ -16,7 +16,8 @@ def plain(text):
 
 paper = " ".join(plain(open(path).read()) for path in sys.argv[1:])
 for path in sorted(glob.glob("crates/**/*", recursive=True)):
-    if not path.endswith((".antt", ".rt")):
+    # what a check keeps in out/ is no source
+    if not path.endswith((".antt", ".rt")) or path.split("/")[2] == "out":
         continue
     for block in re.findall(r"(?:^[ \t]*(?:--|//)[^\n]*\n)+", open(path).read(), re.M):
         comment = " ".join(re.sub(r"^[ \t]*(?:--|//)\s?", "", line) for line in block.strip("\n").split("\n"))

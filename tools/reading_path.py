@@ -9,12 +9,14 @@ import re
 import sys
 
 ROOTS = ["crates/score/specs/Outcome.antt", "crates/score_c/specs/Exported.antt", "crates/reply/specs/Replies.antt"]
-USE = re.compile(r"^(?:unfoldable )?(?:pub )?use Rattle·(\w+?)(?:·specs)?\.specs\.([\w.]+?)(?:\.\{|$| as )", re.M)
+USE = re.compile(r"^(?:unfoldable )?(?:pub )?use Rattle\.(\w+)\.specs\.([\w.]+?)(?:\.\{|$| as )", re.M)
 
 
 def files_of(path):
-    """The specification files and the declared types that a file names."""
+    """The specification files and the declared types of this repository that a file names."""
     for crate, module in USE.findall(open(path).read()):
+        if not os.path.isdir(f"crates/{crate}"):
+            continue
         if module.startswith("declared."):
             yield f"crates/{crate}/src", module.split(".")[1]
         else:
@@ -36,8 +38,20 @@ def reading_path():
     return seen, types
 
 
+def all_files():
+    """The specification files of all crates, but for those that only name modules."""
+    for folder, folders, names in os.walk("crates"):
+        folders[:] = [name for name in folders if name != "out"]
+        if "/specs" in folder:
+            for name in names:
+                path = f"{folder}/{name}"
+                if any(line and not line.startswith(("pub mod ", "mod ", "--")) for line in open(path).read().split("\n")):
+                    yield path
+
+
 def main():
     seen, types = reading_path()
+    every = sorted(all_files())
     total = 0
     for path in sorted(seen):
         lines = sum(1 for _ in open(path))
@@ -45,13 +59,11 @@ def main():
         print(f"{lines:5d} {path}")
     for folder, name in sorted(types):
         print(f"      {folder}: {name}")
-    print(f"{total:5d} lines in {len(seen)} files")
+    print(f"{total:5d} lines in {len(seen)} files, of {len(every)} in specs/")
     if "--rest" in sys.argv:
-        for folder, _, names in sorted(os.walk("crates")):
-            for name in sorted(names):
-                path = f"{folder}/{name}"
-                if "/specs" in folder and name != "Lib.antt" and path not in seen:
-                    print(f"inner {path}")
+        for path in every:
+            if path not in seen:
+                print(f"inner {path}")
 
 
 main()

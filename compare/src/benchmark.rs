@@ -268,13 +268,15 @@ pub fn machine_class() -> String {
     format!("{}, {cores} cores, {model}", std::env::consts::ARCH)
 }
 
-/// The page of docs/.
-pub fn page(table: &str, machine: &str, date: &str, tally: &Tally) -> String {
+/// The page of docs/; below it stands what earlier kits measured, as `old`, the page so far, has it.
+pub fn page(table: &str, machine: &str, date: &str, kit: &str, tally: &Tally, old: &str) -> String {
+    let earlier = old.find("\n## ").map_or("", |at| &old[at..]);
     format!(
         "# Performance
 
-The proved entry beside an independent implementation in ordinary Rust (`compare/`), both called in the same process on the same sheets, in turns. The proved entry is the static library that `rt staticlib` writes.
+The proved entry beside an independent implementation in ordinary Rust (`compare/`), both called in the same process on the same sheets, in turns. The proved entry is the static library that `rt lib` builds of crate `score_c`.
 
+- Proved and built with `{kit}`.
 - Machine: {machine}. Date: {date}.
 - Rerun: `compare/run` from the root of the repository; `compare/run --write` renews this page.
 - Times are microseconds of processor time a sheet for the whole call, from bytes to report (medians of {ROUNDS} rounds); \"/s\" is families a second. The ratio is the proved entry's time over Rust's, as the median of the rounds' ratios with the least and the greatest; below 1 the proved entry is faster.
@@ -284,7 +286,7 @@ The proved entry beside an independent implementation in ordinary Rust (`compare
 
 ```text
 {table}```
-",
+{earlier}",
         tally.sheets, tally.reports, tally.enumerated, tally.settings_enumerated, tally.mismatches
     )
 }

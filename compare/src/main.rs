@@ -7,7 +7,7 @@ use compare::differential::{self, Bounds};
 use compare::{benchmark, corpus, random_test};
 
 const USAGE: &str =
-    "compare [--seed N] [--percent N] [--seconds N] [--no-benchmark] [--write FILE --date DATE]
+    "compare [--seed N] [--percent N] [--seconds N] [--no-benchmark] [--write FILE --date DATE --kit LINE]
 compare --corpus FOLDER
 compare --random-test FILE
 
@@ -15,7 +15,7 @@ compare --random-test FILE
   --percent N     how many sheets, in percent of the usual number (100)
   --seconds N     the most time for the differential run (240)
   --no-benchmark  the differential run alone
-  --write FILE    write the benchmarks as a page to FILE, with DATE
+  --write FILE    write the benchmarks as a page to FILE, with DATE and the kit's line; what it has below a head stays
   --corpus FOLDER write the sheets and the expected output of the test program score_test, and nothing else
   --random-test FILE  write the expected output of the test program random_test, and nothing else";
 
@@ -24,6 +24,7 @@ struct Options {
     benchmark: bool,
     write: Option<String>,
     date: String,
+    kit: String,
     corpus: Option<String>,
     random_test: Option<String>,
 }
@@ -34,6 +35,7 @@ fn options() -> Option<Options> {
         benchmark: true,
         write: None,
         date: "undated".to_string(),
+        kit: "a kit that was not named".to_string(),
         corpus: None,
         random_test: None,
     };
@@ -46,6 +48,7 @@ fn options() -> Option<Options> {
             "--seconds" => options.bounds.seconds = words.next()?.parse().ok()?,
             "--write" => options.write = Some(words.next()?),
             "--date" => options.date = words.next()?,
+            "--kit" => options.kit = words.next()?,
             "--corpus" => options.corpus = Some(words.next()?),
             "--random-test" => options.random_test = Some(words.next()?),
             _ => return None,
@@ -85,7 +88,8 @@ fn main() -> ExitCode {
         println!("benchmarks, {machine}");
         let table = benchmark::run(seed);
         if let Some(path) = options.write {
-            let page = benchmark::page(&table, &machine, &options.date, &tally);
+            let old = std::fs::read_to_string(&path).unwrap_or_default();
+            let page = benchmark::page(&table, &machine, &options.date, &options.kit, &tally, &old);
             if let Err(error) = std::fs::write(&path, page) {
                 eprintln!("{path}: {error}");
                 return ExitCode::FAILURE;

@@ -1,4 +1,4 @@
-/* Scores a family sheet. Link with libscore_c.a, as `rt staticlib score_c` makes it (x86-64); C and C++ can include this. */
+/* Scores a family sheet. Link with libscore_c.a, as `rt lib` makes it in crates/score_c/out (x86-64); C and C++ can include this. */
 #ifndef LGT_SCORE_H
 #define LGT_SCORE_H
 
