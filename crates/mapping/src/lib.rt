@@ -5,8 +5,8 @@
 ghost use Rattle.std.specs.Prelude.{◌≡◌, ℕ, ◌+◌, ◌-◌, ◌≤◌, ◌<◌};
 ghost use Rattle.finite.specs.Tests.{same, tally};
 ghost use Rattle.tables.specs.Columns.{blank};
-ghost use Rattle.layout.specs.inner.Tree.{up as upIn, lateral as lateralIn, arcs as arcsIn};
-ghost use Rattle.layout.specs.inner.Genes.{left as leftIn, leaf as leafIn, gene_tree};
+ghost use Rattle.layout.specs.inner.Tree.{up as up_in, lateral as lateral_in, arcs as arcs_in};
+ghost use Rattle.layout.specs.inner.Genes.{left as left_in, leaf as leaf_in, gene_tree};
 ghost use Rattle.layout.specs.inner.Results.{place as place_in};
 ghost use Rattle.layout.specs.Headers.{costs};
 ghost use Rattle.displayed.specs.Displayed.{NodeOf};
@@ -71,15 +71,15 @@ fn fork(arcs: u32) -> u32
 
 // 1 where coming down the arc into c from a node passed gives up another arc.
 fn mark(t: &Tree, c: usize) -> u32
-    requires { (c ≤ 127) × (upIn t.now c ≤ 127) × (arcsIn t.now (upIn t.now c) ≤ 2) }
-    ensures { (result ≡ fork_in t.now (upIn t.now c)) × (result ≤ 1) }
+    requires { (c ≤ 127) × (up_in t.now c ≤ 127) × (arcs_in t.now (up_in t.now c) ≤ 2) }
+    ensures { (result ≡ fork_in t.now (up_in t.now c)) × (result ≤ 1) }
 {
     fork(arcs(t, up(t, c)))
 }
 
 // The way once the arc into a is climbed too.
 fn climb(t: &Tree, w: Way, a: usize) -> Way
-    requires { (a ≤ 127) × (upIn t.now a ≤ 127) × (lateralIn t.now a ≤ 1) × (arcsIn t.now (upIn t.now a) ≤ 2) × Light w }
+    requires { (a ≤ 127) × (up_in t.now a ≤ 127) × (lateral_in t.now a ≤ 1) × (arcs_in t.now (up_in t.now a) ≤ 2) × Light w }
     ensures { result ≡ climbed_by t.now w a }
 {
     Way {
@@ -232,7 +232,7 @@ fn send(r: &mut Results, k: usize, w: Steps)
 
 // Gene k + 1, where it is a leaf gene, is seated.
 fn seat_leaf(g: &Genes, r: &mut Results, k: usize)
-    requires { (k < 127) × (leftIn g.now (k + 1) ≡ 0 → leafIn g.now (k + 1) ≤ 127) × LeavesUpto g.now k r.old }
+    requires { (k < 127) × (left_in g.now (k + 1) ≡ 0 → leaf_in g.now (k + 1) ≤ 127) × LeavesUpto g.now k r.old }
     ensures { LeavesUpto g.now (k + 1) r.new }
 {
     let j = k + 1;
@@ -243,7 +243,7 @@ fn seat_leaf(g: &Genes, r: &mut Results, k: usize)
 
 // A leaf gene sits at its leaf and has the event 0 under every switching: noted once, before the first.
 pub fn seat_leaves(m: usize, g: &Genes, r: &mut Results)
-    requires { (m ≤ 127) × ((k : ℕ) → 1 ≤ k → k ≤ m → leftIn g.now k ≡ 0 → leafIn g.now k ≤ 127) × (r.old ≡ blank) }
+    requires { (m ≤ 127) × ((k : ℕ) → 1 ≤ k → k ≤ m → left_in g.now k ≡ 0 → leaf_in g.now k ≤ 127) × (r.old ≡ blank) }
     ensures { Lent (gene_tree m g.now) r.new }
 {
     let mut k: usize = 0;

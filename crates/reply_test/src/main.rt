@@ -1,6 +1,6 @@
 // Replies to each sheet of data/ that its arguments name, as the program lgt_score does, and compares the reply with the report beside the sheet. The
 // reports are from the rules or worked out apart from the program: tools/test_sheets.py makes most of the sheets and says how, and compare/run holds
-// all of them to the independent implementation. The folder sheets/ of the repository is this data/.
+// all of them to the independent implementation. data/ is a copy of the folder sheets/ of the repository.
 #![tactic(auto)]
 
 use std::rt::Files;
@@ -8,13 +8,13 @@ use std::{env, io};
 use test_files::Got;
 
 // Whether the reply to a sheet is the report beside it. As much of a sheet is read as the program reads, and of a report a byte more than the longest.
-fn is_as_expected<R: Files + Alloc>(rt: &R, name: &str) -> io::Result<bool> {
+fn is_as_expected<R: Files>(rt: &R, name: &str) -> io::Result<bool> {
     let mut sheet = [0u8; reply::SHEET];
-    let Got::Bytes(bytes) = test_files::read(rt, name, ".sheet", &mut sheet)? else {
+    let Got::Bytes(bytes) = test_files::read(rt, name, b".sheet", &mut sheet)? else {
         return Ok(false);
     };
     let mut expected = [0u8; score::LEAST_BYTES + 1];
-    let Got::Bytes(length) = test_files::read(rt, name, ".report", &mut expected)? else {
+    let Got::Bytes(length) = test_files::read(rt, name, b".report", &mut expected)? else {
         return Ok(false);
     };
     let mut out = [0u8; score::LEAST_BYTES];
@@ -27,7 +27,7 @@ fn tell(rt: &impl Print, name: &str, told: &str) -> io::Result<()> {
     println!(rt; "{name}: {told}")
 }
 
-fn compare<R: Files + Alloc + Print>(rt: &R, name: &str) -> io::Result<()> {
+fn compare<R: Files + Print>(rt: &R, name: &str) -> io::Result<()> {
     if is_as_expected(rt, name)? {
         return tell(rt, name, "as expected");
     }

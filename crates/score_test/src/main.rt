@@ -84,9 +84,9 @@ fn tell(rt: &impl Print, name: &str, told: &str) -> io::Result<()> {
 }
 
 // Scores the sheet of a name.
-fn score_named<R: Files + Alloc + Print>(rt: &R, name: &str) -> io::Result<()> {
+fn score_named<R: Files + Print>(rt: &R, name: &str) -> io::Result<()> {
     let mut sheet = [0u8; SHEET];
-    let Got::Bytes(bytes) = test_files::read(rt, name, ".sheet", &mut sheet)? else {
+    let Got::Bytes(bytes) = test_files::read(rt, name, b".sheet", &mut sheet)? else {
         return tell(rt, name, " is missing");
     };
     tell(rt, name, "")?;

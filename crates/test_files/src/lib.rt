@@ -1,33 +1,45 @@
 // The files of a test program: an argument of the program is a name, and its files have that name and an ending.
 #![tactic(auto)]
 
-ghost use Rattle.std.specs.Prelude.{◌≡◌, ◌++◌, ◌≤◌, length, IfOk, string_bytes};
+ghost use Rattle.std.specs.Prelude.{◌≡◌, ◌+◌, ◌≤◌, length, IfOk};
 ghost use Rattle.test_files.specs.Files.{Fits};
 
-use std::alloc::{AllocError, Allocator};
 use std::fs::File;
-use std::io;
-use std::io::{ErrorKind, Read};
+use std::io::Read;
 use std::rt::Files;
+use std::{io, str};
+
+// A file's name is at most so long, with its ending.
+const PATH: usize = 64;
 
 // How many bytes of a file were read, or there is no such file.
-#[derive(Drop)]
+#[derive(Clone, Copy)]
 pub enum Got {
     Bytes(usize),
     Missing,
 }
 
-// Puts an ending behind a name.
-fn append<A: Allocator>(alloc: A, name: &str, ending: &str) -> Result<String<A>, AllocError>
-    ensures { IfOk result (λ path. string_bytes path ≡ name.now ++ ending.now) }
+// Puts an ending behind the name that stands in the front of a path.
+fn append(path: &mut [u8], name: usize, ending: &[u8])
+    requires { name + length ending.now ≤ length path.old }
 {
-    format!(in alloc; "{name}{ending}")
+    path[name..name + ending.len()].copy_from_slice(ending);
 }
 
-// Opens the file that the name and the ending name.
-fn open<R: Files + Alloc>(rt: &R, name: &str, ending: &str) -> io::Result<R::File> {
-    let path = append(rt.alloc(), name, ending)?;
-    File::open(rt, path.as_str())
+// Opens the file that the name and the ending name, if it can be opened.
+fn open<R: Files>(rt: &R, name: &str, ending: &[u8]) -> Option<R::File>
+    requires { length ending.now ≤ 8 }
+{
+    if name.len() > PATH - ending.len() {
+        return None;
+    }
+    let mut path = [0u8; PATH];
+    append(&mut path, 0, name.as_bytes());
+    append(&mut path, name.len(), ending);
+    let Ok(path) = str::from_utf8(&path[..name.len() + ending.len()]) else {
+        return None;
+    };
+    File::open(rt, path).ok()
 }
 
 // Reads until what is lent is full, or to the end.
@@ -49,13 +61,13 @@ where
 }
 
 // Reads the front of that file, as much as what is lent holds.
-pub fn read<R: Files + Alloc>(rt: &R, name: &str, ending: &str, into: &mut [u8]) -> io::Result<Got>
+pub fn read<R: Files>(rt: &R, name: &str, ending: &[u8], into: &mut [u8]) -> io::Result<Got>
+    requires { length ending.now ≤ 8 }
     ensures fits { IfOk result (λ got. Fits got (length into.old)) }
     ensures kept { length into.new ≡ length into.old }
 {
-    match open(rt, name, ending) {
-        Ok(file) => Ok(Got::Bytes(read_full(file, into)?)),
-        Err(e) if e.kind() == ErrorKind::NotFound => Ok(Got::Missing),
-        Err(e) => Err(e),
-    }
+    let Some(file) = open(rt, name, ending) else {
+        return Ok(Got::Missing);
+    };
+    Ok(Got::Bytes(read_full(file, into)?))
 }
