@@ -64,7 +64,12 @@ fn sheets_and_their_reports() {
             assert_eq!(reply, report, "{}", path.display());
             for (of, text) in [(&path, &sheet), (&path.with_extension("report"), &report.into_bytes())] {
                 let copy = Path::new("../crates/reply_test/data").join(of.file_name().expect("a name"));
-                assert_eq!(&fs::read(&copy).expect("a copy for the test program"), text, "{}", copy.display());
+                assert_eq!(
+                    &fs::read(&copy).expect("a copy for the test program"),
+                    text,
+                    "{}",
+                    copy.display()
+                );
             }
             compared += 1;
         }
