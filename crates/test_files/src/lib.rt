@@ -5,7 +5,6 @@ ghost use Rattle.std.specs.Prelude.{◌≡◌, ◌+◌, ◌≤◌, length, IfOk}
 ghost use Rattle.test_files.specs.Files.{Fits};
 
 use std::fs::File;
-use std::io::Read;
 use std::rt::Files;
 use std::{io, str};
 
@@ -42,24 +41,6 @@ fn open<R: Files>(rt: &R, name: &str, ending: &[u8]) -> Option<R::File>
     File::open(rt, path).ok()
 }
 
-// Reads until what is lent is full, or to the end.
-fn read_full<R: Read>(mut file: R, into: &mut [u8]) -> io::Result<usize>
-where
-    R: Drop,
-    ensures fits { IfOk result (λ bytes. bytes ≤ length into.old) }
-    ensures kept { length into.new ≡ length into.old }
-{
-    let mut done = 0;
-    while done < into.len() {
-        let more = file.read(&mut into[done..])?;
-        if more == 0 {
-            break;
-        }
-        done += more;
-    }
-    Ok(done)
-}
-
 // Reads the front of that file, as much as what is lent holds.
 pub fn read<R: Files>(rt: &R, name: &str, ending: &[u8], into: &mut [u8]) -> io::Result<Got>
     requires { length ending.now ≤ 8 }
@@ -69,5 +50,5 @@ pub fn read<R: Files>(rt: &R, name: &str, ending: &[u8], into: &mut [u8]) -> io:
     let Some(file) = open(rt, name, ending) else {
         return Ok(Got::Missing);
     };
-    Ok(Got::Bytes(read_full(file, into)?))
+    Ok(Got::Bytes(input::read_full(file, into)?))
 }

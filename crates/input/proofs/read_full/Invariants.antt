@@ -1,6 +1,6 @@
 -- What was read so far fits what was lent.
 use Rattle.std.proofs.Common.{length, ◌-◌, ◌≤◌}
-use Rattle.lgt_score.proofs.read_full.Given as goal
+use Rattle.input.proofs.read_full.Given as goal
 
 abbrev pub invariant-loop-done : goal.invariant-loop-done
 invariant-loop-done g l = l.done ≤ length l.into

@@ -1,9 +1,0 @@
--- What was read so far fits what was lent.
-use Rattle.std.proofs.Common.{length, ◌-◌, ◌≤◌}
-use Rattle.test_files.proofs.read_full.Given as goal
-
-abbrev pub invariant-loop-done : goal.invariant-loop-done
-invariant-loop-done g l = l.done ≤ length l.into
-
-abbrev pub decreases-loop-done : goal.decreases-loop-done
-decreases-loop-done g l = length l.initial.into - l.done
