@@ -6,3 +6,4 @@ pub mod Every
 pub mod Least
 pub mod Tables
 pub mod Refusals
+pub mod Upto

@@ -1,0 +1,34 @@
+// Why a sheet is refused, in the order of checking. A refusal has a number, which is what a caller in C and the program's line tell.
+#![tactic(auto)]
+
+ghost use Rattle.std.specs.Prelude.{◌≡◌};
+ghost use Rattle.refusals.specs.Numbers.{number};
+
+#[derive(Clone, Copy, PartialEq, Eq, Debug)]
+pub enum Refusal {
+    // The calling program: a scratch or a result that is too short.
+    ShortScratch = 1,
+    ShortResult = 2,
+    // The typist: no header line, a number of the header beyond its limits, the other lines.
+    NoHeader = 3,
+    BeyondLimits = 4,
+    BadLines = 5,
+    // The network's curator: parents, stamps, what a node is, species, a node with reticulations alone below it, a component with too many.
+    BadParents = 6,
+    BadStamps = 7,
+    BadShape = 8,
+    BadSpecies = 9,
+    OnlyReticulations = 10,
+    CrowdedComponent = 11,
+    // The gene tree's curator: parents and children, species.
+    BadGeneTree = 12,
+    BadGeneSpecies = 13,
+}
+
+impl Refusal {
+    pub fn number(self) -> u32
+        ensures { result ≡ number self }
+    {
+        self as u32
+    }
+}
