@@ -13,8 +13,8 @@ use native.Mathlib.Omega.{arith}
 use borrow.Author.Tests.{ltb-true, ltb-false, le-ltb}
 use Rattle.finite.proofs.Cases.{by_bool, clash}
 use Rattle.columns.specs.Fields.{columns, place_value, column_of, digit_of, worth_of, six, spells, field_at, FieldIs}
-use Rattle.columns.specs.declared.Field.{Field}
-use Rattle.columns.specs.declared.Field.TheVariants.{Number, Malformed}
+use Rattle.columns.specs.declared.Cursor.{Cursor}
+use Rattle.std.specs.Prelude.{Option, Some, None}
 use Rattle.columns.proofs.Bytes.{same_eq, eq_same}
 use Rattle.columns.proofs.Columns.{columns_are, length_columns, six_at, six_columns}
 
@@ -67,31 +67,31 @@ worth_bound bs =
     omega (arith, digit_small (get_or bs 0 0), digit_small (get_or bs 1 0), digit_small (get_or bs 2 0), digit_small (get_or bs 3 0), digit_small (get_or bs 4 0), digit_small (get_or bs 5 0))
 
 -- reading a number that is spelled
-pub found : (s : List ℕ) (at n : ℕ) → n < 1000000 → spells (six s at) n ≡ true → field_at s at ≡ Number n (record { at = at + 6 })
+pub found : (s : List ℕ) (at n : ℕ) → n < 1000000 → spells (six s at) n ≡ true → field_at s at ≡ Some (n, record { at = at + 6 })
 unfolding field_at
 found s at n h e = rw (spelled_worth (six s at) n h e, e)
 
--- `Malformed` exactly when no number is spelled there
+-- `None` exactly when no number is spelled there
 pub field_is : (s : List ℕ) (at : ℕ) → FieldIs s at (field_at s at)
 unfolding field_at
 field_is s at = go (spells (six s at) (worth_of (six s at) 6)) refl
   where
     go : (b : Bool) → spells (six s at) (worth_of (six s at) 6) ≡ b
-        → FieldIs s at (cond b (Number (worth_of (six s at) 6) (record { at = at + 6 })) Malformed)
+        → FieldIs s at (cond b (Some (worth_of (six s at) 6, record { at = at + 6 })) None)
     go true e = (worth_bound (six s at), e, refl)
     go false e = λ n h t. clash (rw (spelled_worth (six s at) n h t) t) e
 
 -- for the reader: what it returns, computed and by cases
-pub field_told : (s : List ℕ) (at : ℕ) {r : Field} → r ≡ field_at s at → (r ≡ field_at s at) × FieldIs s at r
-field_told s at {r} e = (e, subst (λ (x : Field). FieldIs s at x) (sym e) (field_is s at))
+pub field_told : (s : List ℕ) (at : ℕ) {r : Option (ℕ × Cursor)} → r ≡ field_at s at → (r ≡ field_at s at) × FieldIs s at r
+field_told s at {r} e = (e, subst (λ (x : Option (ℕ × Cursor)). FieldIs s at x) (sym e) (field_is s at))
 
-pub only_field : (s : List ℕ) (at : ℕ) (r : Field) → FieldIs s at r → r ≡ field_at s at
-only_field s at (Number n c) f = ap (λ (k : ℕ). Number n (record { at = k })) f.2 ∙ sym (found s at n f.0 f.1)
-only_field s at Malformed f = go (field_at s at) (field_is s at)
+pub only_field : (s : List ℕ) (at : ℕ) (r : Option (ℕ × Cursor)) → FieldIs s at r → r ≡ field_at s at
+only_field s at (Some (n, c)) f = ap (λ (k : ℕ). Some (n, record { at = k })) f.2 ∙ sym (found s at n f.0 f.1)
+only_field s at None f = go (field_at s at) (field_is s at)
   where
-    go : (r : Field) → FieldIs s at r → Malformed ≡ r
-    go (Number n c) g = absurd (f n g.0 g.1)
-    go Malformed g = refl
+    go : (r : Option (ℕ × Cursor)) → FieldIs s at r → None ≡ r
+    go (Some (n, c)) g = absurd (f n g.0 g.1)
+    go None g = refl
 
 -- fewer than six bytes spell nothing
 pub short_spells : (s : List ℕ) (at n : ℕ) → length s < at + 6 → spells (six s at) n ≡ true → ⊥
@@ -99,8 +99,8 @@ short_spells s at n h e =
     let l : min 6 (length s - at) ≡ 6 = simp (length-take, length-drop, length_columns) at (ap length (spelled_columns (six s at) n e)) in
     omega (arith, min-le_right 6 (length s - at))
 
-pub short : (s : List ℕ) (at : ℕ) → length s < at + 6 → Malformed ≡ field_at s at
-short s at h = only_field s at Malformed (λ n _ e. short_spells s at n h e)
+pub short : (s : List ℕ) (at : ℕ) → length s < at + 6 → None ≡ field_at s at
+short s at h = only_field s at None (λ n _ e. short_spells s at n h e)
 
 -- one column more
 pub worth_turn : (s : List ℕ) (at n i d p : ℕ) → i < 6 → n ≡ worth_of (six s at) i → d ≡ digit_of (get_or s (at + i) 0) → p ≡ place_value (5 - i)

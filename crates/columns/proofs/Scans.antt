@@ -2,20 +2,19 @@
 -- a byte that does not fit leaves no number (`misfit`). Each column is met by its place value: the digits before it, it, and what is behind.
 -- Assumes nothing.
 use Prim.Native.Nat.{ℕ, zero, suc, ◌+◌, ◌-◌, ◌*◌, ◌/◌, ◌%◌, ◌≤◌, ◌<◌}
-use mathlib.Core.Path.{◌≡◌, refl, sym, ap, ◌∙◌}
-use mathlib.Core.Logic.{◌↔◌}
+use mathlib.Core.Path.{◌≡◌, refl, sym, ◌∙◌}
 use mathlib.Core.Bool.{true, false, cond}
 use mathlib.Core.List.{List, [], ◌∷◌}
 use lib.ListN.{length, get_or}
 use lib.Dec.{ltb, eqb, lit<}
-use native.Mathlib.Nat.{div-eq_of_lt, div-div-eq-div-mul, mul-add-div_right, mul-le-mul_right, add-zero, one-mul}
+use native.Mathlib.Nat.{div-eq_of_lt, div-div-eq-div-mul, mul-add-div_right, mul-le-mul_right, one-mul}
 use native.Mathlib.Omega.{arith}
 use borrow.Author.Tests.{ltb-false, eqb-true, eqb-false, lt-ltb, le-ltb, ne_eqb}
 use Rattle.finite.proofs.Cases.{by_bool, by_eq, by_less, clash}
 use Rattle.columns.specs.Fields.{columns, place_value, column_of, digit_of, worth_of, six, field_at}
-use Rattle.columns.specs.inner.Scans.{front_count, Blank, two_spaces, digit, opening, fitting}
-use Rattle.columns.specs.declared.Field.TheVariants.{Number, Malformed}
-use Rattle.columns.proofs.Columns.{columns_are, below_six, space, shown, six_at}
+use Rattle.columns.specs.inner.Scans.{Blank, digit, opening, fitting}
+use Rattle.std.specs.Prelude.{Some, None}
+use Rattle.columns.proofs.Columns.{columns_are, below_six, space, shown, six_at, term_bound}
 use Rattle.columns.proofs.Fields.{digit_small, mod_ten, column_digit, spelled_columns, found, agrees, only_field, worth_bound, worth_turn}
 
 -- what a digit, and an opening byte, is
@@ -90,7 +89,7 @@ module _ (bs : List ℕ) (fit : (j : ℕ) → j < 6 → fitting (get_or bs j 0) 
       (fitting_is (get_or bs 5 0) (worth_of bs 5) 0 (fit 5 (lit< tt)) (λ _ last _. absurd (last refl)) (λ low high _. omega (arith, digit_value (get_or bs 5 0) low high)))
 
 pub all_fit : (s : List ℕ) (at n i : ℕ) → at + 6 ≤ length s → 6 ≤ i → i ≤ 6 → n ≡ worth_of (six s at) i
-    → ((j : ℕ) → j < i → fitting (get_or s (at + j) 0) (worth_of (six s at) j) (5 - j) ≡ true) → Number n (record { at = at + 6 }) ≡ field_at s at
+    → ((j : ℕ) → j < i → fitting (get_or s (at + j) 0) (worth_of (six s at) j) (5 - j) ≡ true) → Some (n, record { at = at + 6 }) ≡ field_at s at
 all_fit s at n i room low high en fit =
     let six-fit : (j : ℕ) → j < 6 → fitting (get_or (six s at) j 0) (worth_of (six s at) j) (5 - j) ≡ true = λ j h. rw (six_at s at j h) (fit j (omega arith)) in
     let e : i ≡ 6 = omega arith in
@@ -172,8 +171,8 @@ module _ (n : ℕ) (h : n < 1000000) where
       (digit_fits (n / 1 % 10) _ 0 (mod_ten (n / 1)) (λ t last. absurd (last refl))))
 
 -- a byte that does not fit leaves no number
-pub misfit : (s : List ℕ) (at i : ℕ) → i < 6 → fitting (get_or s (at + i) 0) (worth_of (six s at) i) (5 - i) ≡ false → Malformed ≡ field_at s at
-misfit s at i h e = only_field s at Malformed (λ n small t. clash
+pub misfit : (s : List ℕ) (at i : ℕ) → i < 6 → fitting (get_or s (at + i) 0) (worth_of (six s at) i) (5 - i) ≡ false → None ≡ field_at s at
+misfit s at i h e = only_field s at None (λ n small t. clash
     (rw (← six_at s at i h, spelled_columns (six s at) n t) (columns_fit n small i h)) e)
 
 -- columns that are spaces are worth nothing, and fit before the last
@@ -187,42 +186,13 @@ blank_number s at k h b = sym (blank_worth s at k h b k (omega arith))
 pub blank_fits : (s : List ℕ) (at k : ℕ) → k < 6 → Blank s at k → (j : ℕ) → j < k → fitting (get_or s (at + j) 0) (worth_of (six s at) j) (5 - j) ≡ true
 blank_fits s at k h b j l = rw (blank_worth s at k h b j (omega arith), b.spaces j l) (space_fits (5 - j) (λ q. omega arith))
 
--- columns that are spaces, and those behind them
-blank_more : (s : List ℕ) (at j k : ℕ) → Blank s at j → Blank s (at + j) k → Blank s at (j + k)
-blank_more s at j k a b = record {
-  spaces = λ i h. by_less i j (a.spaces i)
-      (λ l. ap (λ (q : ℕ). get_or s q 0) (omega arith) ∙ b.spaces (i - j) (omega arith));
-}
-
-blank_first : (s : List ℕ) (at j k : ℕ) → Blank s at (j + k) → Blank s at j
-blank_first s at j k b = record { spaces = λ i h. b.spaces i (omega arith) }
-
-blank_behind : (s : List ℕ) (at j k : ℕ) → Blank s at (j + k) → Blank s (at + j) k
-blank_behind s at j k b = record { spaces = λ i h. ap (λ (q : ℕ). get_or s q 0) (omega arith) ∙ b.spaces (j + i) (omega arith) }
-
--- two bytes that make the number of two spaces are spaces, and the other way round
-pub pair_blank : (s : List ℕ) (at a b : ℕ) → a ≡ get_or s at 0 → b ≡ get_or s (at + 1) 0 → a < 256 → b < 256 → (a + 256 * b ≡ two_spaces) ↔ Blank s at 2
-pair_blank s at a b ea eb la lb = (
-  λ e. record { spaces = each e },
-  λ h. let e : get_or s (at + 0) 0 ≡ 32 = h.spaces 0 (lit< tt) in omega (arith, rw (add-zero at) at e, h.spaces 1 (lit< tt)),
-)
-  where
-    each : a + 256 * b ≡ two_spaces → (j : ℕ) → j < 2 → get_or s (at + j) 0 ≡ 32
-    each e zero h = rw (add-zero at) (omega arith)
-    each e (suc zero) h = omega arith
-    each e (suc (suc j)) h = absurd (omega arith)
-
--- and so are two pairs of them
-pub front_blank : (s : List ℕ) (at low high : ℕ) → (low ≡ two_spaces) ↔ Blank s at 2 → (high ≡ two_spaces) ↔ Blank s (at + 2) 2 → low < 65536
-    → (low + 65536 * high ≡ two_spaces + 65536 * two_spaces) ↔ Blank s at front_count
-front_blank s at low high el eh room = (
-  λ e. blank_more s at 2 2 (el.0 (omega arith)) (eh.0 (omega arith)),
-  λ b. omega (arith, el.1 (blank_first s at 2 2 b), eh.1 (blank_behind s at 2 2 b)),
-)
-
 -- a turn of the loop that reads: the value of a byte that fits, and what the columns are worth with it
-pub value_small : (b w k v : ℕ) → fitting b w k ≡ true → v ≡ b % 16 → v ≤ 9
+value_small : (b w k v : ℕ) → fitting b w k ≡ true → v ≡ b % 16 → v ≤ 9
 value_small b w k v fit e = rw (e, low_bits b w k fit) (digit_small b)
+
+-- so no turn adds more than 900,000
+pub turn_bound : (b w k v p : ℕ) → fitting b w k ≡ true → v ≡ b % 16 → k < 6 → p ≡ place_value k → v * p ≤ 900000
+turn_bound b w k v p fit ev l ep = term_bound v k p (value_small b w k v fit ev) l ep
 
 pub scan_turn : (s : List ℕ) (at n i v p : ℕ) → i < 6 → n ≡ worth_of (six s at) i → fitting (get_or s (at + i) 0) n (5 - i) ≡ true → v ≡ get_or s (at + i) 0 % 16
     → p ≡ place_value (5 - i) → n + v * p ≡ worth_of (six s at) (i + 1)

@@ -1,8 +1,7 @@
 -- A field (01, "The sheet"): "a decimal number without leading zeros, right-justified after spaces; zero is `0`", in six columns.
 -- Assumes nothing.
-use Rattle.std.specs.Prelude.{ℕ, zero, suc, ◌+◌, ◌-◌, ◌*◌, ◌/◌, ◌%◌, ◌<◌, ◌≡◌, Bool, true, false, cond, ◌&&◌, List, [], ◌∷◌, ◌++◌, length, get_or, take, drop, replicate, ltb, eqb}
-use Rattle.columns.specs.declared.Field.{Field}
-use Rattle.columns.specs.declared.Field.TheVariants.{Number, Malformed}
+use Rattle.std.specs.Prelude.{ℕ, zero, suc, ◌+◌, ◌-◌, ◌*◌, ◌/◌, ◌%◌, ◌<◌, ◌≡◌, Bool, true, false, cond, ◌&&◌, List, [], ◌∷◌, ◌++◌, length, get_or, take, drop, replicate, ltb, eqb, Option, Some, None}
+use Rattle.columns.specs.declared.Cursor.{Cursor}
 
 -- the decimal numeral of n without leading zeros; k bounds its length
 unfoldable pub numeral_in : ℕ → ℕ → List ℕ
@@ -52,10 +51,10 @@ abbrev pub six : List ℕ → ℕ → List ℕ
 six s at = take 6 (drop at s)
 
 -- reading a field: the only number that six bytes can spell is what they are worth; either they spell it, or they are malformed
-unfoldable pub field_at : List ℕ → ℕ → Field
-field_at s at = cond (spells (six s at) (worth_of (six s at) 6)) (Number (worth_of (six s at) 6) (record { at = at + 6 })) Malformed
+unfoldable pub field_at : List ℕ → ℕ → Option (ℕ × Cursor)
+field_at s at = cond (spells (six s at) (worth_of (six s at) 6)) (Some (worth_of (six s at) 6, record { at = at + 6 })) None
 
 -- the same, as 01 would say it: a number below 1,000,000 that the six bytes spell, with the place after them; or no number is spelled there
-abbrev pub FieldIs : List ℕ → ℕ → Field → Type 0
-FieldIs s at (Number n c) = (n < 1000000) × (spells (six s at) n ≡ true) × (c.at ≡ at + 6)
-FieldIs s at Malformed = (n : ℕ) → n < 1000000 → spells (six s at) n ≡ true → ⊥
+abbrev pub FieldIs : List ℕ → ℕ → Option (ℕ × Cursor) → Type 0
+FieldIs s at (Some (n, c)) = (n < 1000000) × (spells (six s at) n ≡ true) × (c.at ≡ at + 6)
+FieldIs s at None = (n : ℕ) → n < 1000000 → spells (six s at) n ≡ true → ⊥

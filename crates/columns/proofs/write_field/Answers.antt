@@ -1,11 +1,13 @@
 -- Writing a field: a number below 100 is written in two parts, the spaces of the front columns and the last two; any other column by column.
 -- Assumes nothing.
 use mathlib.Core.Path.{◌∙◌}
+use Rattle.columns.specs.Writing.{written}
 use Rattle.columns.proofs.Writing.{field_parts, put_front}
 use borrow.Author.Rules.{rules}
 use Rattle.columns.proofs.write_field.Goals as goal
 
 pub returns-then-n-worth : goal.returns-then-n-worth
+unfolding written
 returns-then-n-worth c = let a = c.args in
     field_parts a.out.now _ _ a.n (search rules) (search rules) c.write_columns.ensures
 

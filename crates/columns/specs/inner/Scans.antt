@@ -1,6 +1,6 @@
 -- Reading a field column by column from the left: which byte may stand in a column, by what the columns before it are worth.
 -- Assumes nothing.
-use Rattle.std.specs.Prelude.{ℕ, ◌+◌, ◌*◌, ◌<◌, ◌≡◌, Bool, true, false, cond, List, get_or, ltb, eqb}
+use Rattle.std.specs.Prelude.{ℕ, ◌+◌, ◌<◌, ◌≡◌, Bool, true, false, cond, List, get_or, ltb, eqb}
 
 -- the columns in front of the last two, which are spaces in the field of a number below 100
 abbrev pub front_count : ℕ
@@ -9,10 +9,6 @@ front_count = 4
 -- the first k columns at a place of the text are spaces
 pub record Blank (s : List ℕ) (at k : ℕ) : Type 0 where
   pub spaces : (j : ℕ) → j < k → get_or s (at + j) 0 ≡ 32
-
--- two spaces as one number, the byte of the first counting least
-abbrev pub two_spaces : ℕ
-two_spaces = 32 + 256 * 32
 
 -- whether a byte is a digit
 unfoldable pub digit : ℕ → Bool
