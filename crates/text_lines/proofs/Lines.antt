@@ -19,13 +19,10 @@ use Rattle.columns.specs.Fields.{columns, six, spells, field_at, FieldIs}
 use Rattle.columns.specs.Writing.{written, put}
 use Rattle.text_lines.specs.Lines.{field_count, line_length, fields_of, line_of, Small, Reading, malformed, end_at, and_then, rest_at, line_at, LineIs, LineRead}
 use Rattle.columns.specs.declared.Cursor.{Cursor}
-use Rattle.columns.specs.declared.Field.{Field}
-use Rattle.columns.specs.declared.Field.TheVariants.{Number, Malformed as no_number}
-use Rattle.text_lines.specs.declared.End.{End}
-use Rattle.text_lines.specs.declared.End.TheVariants.{After, Malformed}
+use Rattle.std.specs.Prelude.{Option, Some, None}
 use Rattle.columns.proofs.Columns.{length_columns}
 use Rattle.columns.proofs.Fields.{field_is, columns_spelled, spelled_columns, one_number}
-use Rattle.columns.proofs.Writing.{lent, put_nil, put_set, put_over, put_written, length_written}
+use Rattle.columns.proofs.Writing.{lent, put_nil, put_set, put_over, put_written}
 
 -- the bytes of fields and of a line
 length_fields : (k : ℕ) (ns : List ℕ) → length (fields_of k ns) ≡ 6 * k
@@ -92,9 +89,9 @@ six_more : (k : ℕ) → 6 * suc k + 1 ≡ 6 + (6 * k + 1)
 six_more k = omega arith
 
 -- what is left of a line, k fields and the line feed, is that of the numbers found, which follow ns; or it is no such line
-abbrev EndIs : ℕ → List ℕ → ℕ → List ℕ → List ℕ → End → Type 0
-EndIs k s at ns l (After c) = (ms : List ℕ) × (l ≡ ns ++ ms) × Small ms × (take (6 * k + 1) (drop at s) ≡ rest k ms) × (c.at ≡ at + (6 * k + 1))
-EndIs k s at ns l Malformed = (ms : List ℕ) → Small ms → take (6 * k + 1) (drop at s) ≡ rest k ms → ⊥
+abbrev EndIs : ℕ → List ℕ → ℕ → List ℕ → List ℕ → Option Cursor → Type 0
+EndIs k s at ns l (Some c) = (ms : List ℕ) × (l ≡ ns ++ ms) × Small ms × (take (6 * k + 1) (drop at s) ≡ rest k ms) × (c.at ≡ at + (6 * k + 1))
+EndIs k s at ns l None = (ms : List ℕ) → Small ms → take (6 * k + 1) (drop at s) ≡ rest k ms → ⊥
 
 abbrev RestIs : ℕ → List ℕ → ℕ → List ℕ → Reading → Type 0
 RestIs k s at ns r = EndIs k s at ns r.line r.end
@@ -111,17 +108,17 @@ field_more : (k : ℕ) (s : List ℕ) (at : ℕ) (ns : List ℕ) (n : ℕ) → n
     → RestIs k s (at + 6) (ns ++ (n ∷ [])) r → RestIs (suc k) s at ns r
 field_more k s at ns n h e r = go r.end
   where
-    go : (d : End) → EndIs k s (at + 6) (ns ++ (n ∷ [])) r.line d → EndIs (suc k) s at ns r.line d
-    go (After c) (ms, el, sm, et, ec) = (
+    go : (d : Option Cursor) → EndIs k s (at + 6) (ns ++ (n ∷ [])) r.line d → EndIs (suc k) s at ns r.line d
+    go (Some c) (ms, el, sm, et, ec) = (
       n ∷ ms,
       el ∙ append_assoc ns (n ∷ []) ms,
       small_cons n ms h sm,
       rw (six_more k, rest_head k (n ∷ ms)) (more s (columns n) (rest k ms) at (6 * k + 1) (spelled_columns (six s at) n e) et),
       omega (arith, ec),
     )
-    go Malformed none = λ ms sm et. none (drop 1 ms) (small_tail ms sm) (back s (rest k (drop 1 ms)) at (6 * k + 1) (get_or ms 0 0) (rw (six_more k, rest_head k ms) at et))
+    go None none = λ ms sm et. none (drop 1 ms) (small_tail ms sm) (back s (rest k (drop 1 ms)) at (6 * k + 1) (get_or ms 0 0) (rw (six_more k, rest_head k ms) at et))
 
-no_field : (k : ℕ) (s : List ℕ) (at : ℕ) (ns : List ℕ) → FieldIs s at no_number → RestIs (suc k) s at ns malformed
+no_field : (k : ℕ) (s : List ℕ) (at : ℕ) (ns : List ℕ) → FieldIs s at None → RestIs (suc k) s at ns malformed
 unfolding malformed
 no_field k s at ns none ms sm et =
     none (get_or ms 0 0) (sm.small 0) (columns_spelled (six s at) (get_or ms 0 0) (front s (rest k (drop 1 ms)) at (6 * k + 1) (get_or ms 0 0) (rw (six_more k, rest_head k ms) at et)))
@@ -131,19 +128,19 @@ unfolding rest_at
 rest_is zero s at ns = end_is s at ns
 rest_is (suc k) s at ns = go (field_at s at) (field_is s at) (λ q n. rest_is k s q (ns ++ (n ∷ [])))
   where
-    go : (r : Field) → FieldIs s at r → ((q n : ℕ) → RestIs k s q (ns ++ (n ∷ [])) (rest_at k s q (ns ++ (n ∷ []))))
+    go : (r : Option (ℕ × Cursor)) → FieldIs s at r → ((q n : ℕ) → RestIs k s q (ns ++ (n ∷ [])) (rest_at k s q (ns ++ (n ∷ []))))
         → RestIs (suc k) s at ns (and_then r (λ n c. rest_at k s c.at (ns ++ (n ∷ []))))
-    go (Number n c) (h, e, q) ih = rw q (field_more k s at ns n h e (rest_at k s (at + 6) (ns ++ (n ∷ []))) (ih (at + 6) n))
-    go no_number f ih = no_field k s at ns f
+    go (Some (n, c)) (h, e, q) ih = rw q (field_more k s at ns n h e (rest_at k s (at + 6) (ns ++ (n ∷ []))) (ih (at + 6) n))
+    go None f ih = no_field k s at ns f
 
 -- a line is found just where there is one
 pub line_is : (s : List ℕ) (at : ℕ) → LineIs s at (line_at s at).line (line_at s at).end
 unfolding line_at line_of
 line_is s at = go (line_at s at).end (rest_is field_count s at [])
   where
-    go : (d : End) → EndIs field_count s at [] (line_at s at).line d → LineIs s at (line_at s at).line d
-    go (After c) (ms, el, sm, et, ec) = rw el (sm, et, ec)
-    go Malformed none = none
+    go : (d : Option Cursor) → EndIs field_count s at [] (line_at s at).line d → LineIs s at (line_at s at).line d
+    go (Some c) (ms, el, sm, et, ec) = rw el (sm, et, ec)
+    go None none = none
 
 -- two lists of numbers with the same line have the same fields
 one_fields : (k : ℕ) (ms ns : List ℕ) → Small ms → Small ns → fields_of k ms ≡ fields_of k ns → (i : ℕ) → i < k → get_or ms i 0 ≡ get_or ns i 0
@@ -166,26 +163,26 @@ one_line ms ns sm sn e = one_fields field_count ms ns sm sn
     ∙ take_at (fields_of field_count ns) (10 ∷ []) (6 * field_count) (length_fields field_count ns))
 
 -- how a line ends after its last field
-ended : {c : Cursor} → After c ≡ Malformed → ⊥
+ended : {c : Cursor} → Some c ≡ None → ⊥
 ended e = let z : ◌≡◌ {A = ℕ} 0 1 = cc in omega arith
 
-pub line_feed : (s : List ℕ) (at : ℕ) → get_or s at 0 ≡ 10 → After (record { at = at + 1 }) ≡ (end_at s at []).end
+pub line_feed : (s : List ℕ) (at : ℕ) → get_or s at 0 ≡ 10 → Some (record { at = at + 1 }) ≡ (end_at s at []).end
 unfolding end_at
 line_feed s at e = rw (eq-eqb _ _ e)
 
-pub no_line_feed : (s : List ℕ) (at : ℕ) → (get_or s at 0 ≡ 10 → ⊥) → Malformed ≡ (end_at s at []).end
+pub no_line_feed : (s : List ℕ) (at : ℕ) → (get_or s at 0 ≡ 10 → ⊥) → None ≡ (end_at s at []).end
 unfolding end_at malformed
 no_line_feed s at d = rw (ne_eqb _ _ d)
 
-pub past_end : (s : List ℕ) (at : ℕ) → length s ≤ at → Malformed ≡ (end_at s at []).end
+pub past_end : (s : List ℕ) (at : ℕ) → length s ≤ at → None ≡ (end_at s at []).end
 past_end s at l = no_line_feed s at (λ q. omega (arith, get_or-eq_default s 0 {n = at} l))
 
 -- the numbers do not change how it ends
-end_after : (s : List ℕ) (at : ℕ) (ns : List ℕ) (c : Cursor) → (end_at s at []).end ≡ After c → end_at s at ns ≡ record { line = ns; end = After c }
+end_after : (s : List ℕ) (at : ℕ) (ns : List ℕ) (c : Cursor) → (end_at s at []).end ≡ Some c → end_at s at ns ≡ record { line = ns; end = Some c }
 unfolding end_at malformed
-end_after s at ns c e = by_bool (eqb (get_or s at 0) 10) (λ t. rw t (ap (λ (d : End). record { line = ns; end = d }) (rw t at e))) (λ t. absurd (ended (sym (rw t at e))))
+end_after s at ns c e = by_bool (eqb (get_or s at 0) 10) (λ t. rw t (ap (λ (d : Option Cursor). record { line = ns; end = d }) (rw t at e))) (λ t. absurd (ended (sym (rw t at e))))
 
-no_end : (s : List ℕ) (at : ℕ) (ns : List ℕ) → (end_at s at []).end ≡ Malformed → end_at s at ns ≡ malformed
+no_end : (s : List ℕ) (at : ℕ) (ns : List ℕ) → (end_at s at []).end ≡ None → end_at s at ns ≡ malformed
 unfolding end_at
 no_end s at ns e = by_bool (eqb (get_or s at 0) 10) (λ t. absurd (ended (rw t at e))) (λ t. rw t)
 
@@ -201,11 +198,11 @@ unfolding line_at
 read_start s start d place = record { first = []; many = refl; stand = put_nil d place; rest_of = refl }
 
 -- what is told of a line: how it ends, and its numbers at the place
-abbrev pub Told : List ℕ → ℕ → List ℕ → ℕ → End → List ℕ → Type 0
+abbrev pub Told : List ℕ → ℕ → List ℕ → ℕ → Option Cursor → List ℕ → Type 0
 Told s start d place r e = (r ≡ (line_at s start).end) × (e ≡ put d place (line_at s start).line)
 
 module _ {s d numbers : List ℕ} {start place q i : ℕ} (room : place + field_count ≤ length d) (x : Read s start d place q i numbers) where
-  pub read_turn : (n : ℕ) (r : Field) (c : Cursor) → i < field_count → r ≡ field_at s q → r ≡ Number n c → Read s start d place c.at (i + 1) (set numbers (place + i) n)
+  pub read_turn : (n : ℕ) (r : Option (ℕ × Cursor)) (c : Cursor) → i < field_count → r ≡ field_at s q → r ≡ Some (n, c) → Read s start d place c.at (i + 1) (set numbers (place + i) n)
   unfolding rest_at
   read_turn n r c h e ec =
       let k : field_count - i ≡ suc (field_count - (i + 1)) = omega arith in
@@ -217,11 +214,11 @@ module _ {s d numbers : List ℕ} {start place q i : ℕ} (room : place + field_
       }
 
   -- a line that is not one: what was put is put over
-  no_line_told : (r : End) (e : List ℕ) → i ≤ field_count → line_at s start ≡ malformed → r ≡ malformed.end → e ≡ put numbers place malformed.line → Told s start d place r e
+  no_line_told : (r : Option Cursor) (e : List ℕ) → i ≤ field_count → line_at s start ≡ malformed → r ≡ malformed.end → e ≡ put numbers place malformed.line → Told s start d place r e
   unfolding malformed
   no_line_told r e h em er ee = rw em (er, ee ∙ rw x.stand (put_over d x.first (replicate field_count 0) place (omega arith) (omega (arith, x.many))))
 
-  pub read_stop : (t : Field) (r : End) (e : List ℕ) → i < field_count → t ≡ field_at s q → t ≡ no_number → r ≡ malformed.end → e ≡ put numbers place malformed.line
+  pub read_stop : (t : Option (ℕ × Cursor)) (r : Option Cursor) (e : List ℕ) → i < field_count → t ≡ field_at s q → t ≡ None → r ≡ malformed.end → e ≡ put numbers place malformed.line
       → Told s start d place r e
   unfolding rest_at
   read_stop t r e h et en =
@@ -232,11 +229,11 @@ module _ {s d numbers : List ℕ} {start place q i : ℕ} (room : place + field_
   unfolding rest_at
   read_all a b = let k : i ≡ field_count = omega arith in x.rest_of ∙ rw k
 
-  pub read_unended : (t r : End) (e : List ℕ) → i ≤ field_count → field_count ≤ i → t ≡ (end_at s q []).end → t ≡ Malformed → r ≡ malformed.end
+  pub read_unended : (t r : Option Cursor) (e : List ℕ) → i ≤ field_count → field_count ≤ i → t ≡ (end_at s q []).end → t ≡ None → r ≡ malformed.end
       → e ≡ put numbers place malformed.line → Told s start d place r e
   read_unended t r e a b et em = no_line_told r e a (read_all a b ∙ no_end s q x.first (sym et ∙ em))
 
-  pub read_done : (t : End) (c : Cursor) → i ≤ field_count → field_count ≤ i → t ≡ (end_at s q []).end → t ≡ After c → Told s start d place (After c) numbers
+  pub read_done : (t : Option Cursor) (c : Cursor) → i ≤ field_count → field_count ≤ i → t ≡ (end_at s q []).end → t ≡ Some c → Told s start d place (Some c) numbers
   read_done t c a b et ec = rw (read_all a b, end_after s q x.first c (sym et ∙ ec)) (refl, x.stand)
 
 -- the turn of the loop that writes: the part from the next field on is lent, and comes back with the field written
@@ -248,9 +245,6 @@ write_turn d out y line at i ea h room eo e ey =
     let step : put out at (columns (get_or line i 0)) ≡ written d (fields_of i line ++ columns (get_or line i 0)) =
     rw e (put_written d (fields_of i line) (columns (get_or line i 0)) at (ea ∙ sym (length_fields i line))) in
     lent out y at (columns (get_or line i 0)) (omega arith) ey ∙ step ∙ rw (add-one i)
-
-pub write_room : (d out line : List ℕ) (i : ℕ) → i ≤ field_count → line_length ≤ length d → out ≡ written d (fields_of i line) → length out ≡ length d
-write_room d out line i h room e = ap length e ∙ length_written d (fields_of i line) (omega (arith, length_fields i line))
 
 pub write_done : (d out line : List ℕ) (i : ℕ) → i ≤ field_count → field_count ≤ i → line_length ≤ length d
     → out ≡ written d (fields_of i line) → set out (6 * field_count) 10 ≡ written d (line_of line)
@@ -267,36 +261,36 @@ unfolding rest_at end_at malformed
 length_rest zero s at ns e = by_bool (eqb (get_or s at 0) 10) (λ t. rw t (omega arith)) (λ t. rw t)
 length_rest (suc k) s at ns e = go (field_at s at) (λ q n. length_rest k s q (ns ++ (n ∷ [])) (rw length-append (omega arith)))
   where
-    go : (r : Field) → ((q n : ℕ) → length (rest_at k s q (ns ++ (n ∷ []))).line ≡ field_count)
+    go : (r : Option (ℕ × Cursor)) → ((q n : ℕ) → length (rest_at k s q (ns ++ (n ∷ []))).line ≡ field_count)
         → length (and_then r (λ n c. rest_at k s c.at (ns ++ (n ∷ [])))).line ≡ field_count
-    go (Number n c) ih = ih c.at n
-    go no_number ih = refl
+    go (Some (n, c)) ih = ih c.at n
+    go None ih = refl
 
 pub length_read : (s : List ℕ) (at : ℕ) → length (line_at s at).line ≡ field_count
 unfolding line_at
 length_read s at = length_rest field_count s at [] refl
 
-malformed_rest : (k : ℕ) (s : List ℕ) (at : ℕ) (ns : List ℕ) → (rest_at k s at ns).end ≡ Malformed → rest_at k s at ns ≡ malformed
+malformed_rest : (k : ℕ) (s : List ℕ) (at : ℕ) (ns : List ℕ) → (rest_at k s at ns).end ≡ None → rest_at k s at ns ≡ malformed
 unfolding rest_at end_at
 malformed_rest zero s at ns e = by_bool (eqb (get_or s at 0) 10) (λ t. absurd (ended (rw t at e))) (λ t. rw t)
 malformed_rest (suc k) s at ns e = go (field_at s at) (λ q n. malformed_rest k s q (ns ++ (n ∷ []))) e
   where
-    go : (r : Field) → ((q n : ℕ) → (rest_at k s q (ns ++ (n ∷ []))).end ≡ Malformed → rest_at k s q (ns ++ (n ∷ [])) ≡ malformed)
-        → (and_then r (λ n c. rest_at k s c.at (ns ++ (n ∷ [])))).end ≡ Malformed → and_then r (λ n c. rest_at k s c.at (ns ++ (n ∷ []))) ≡ malformed
-    go (Number n c) ih d = ih c.at n d
-    go no_number ih d = refl
+    go : (r : Option (ℕ × Cursor)) → ((q n : ℕ) → (rest_at k s q (ns ++ (n ∷ []))).end ≡ None → rest_at k s q (ns ++ (n ∷ [])) ≡ malformed)
+        → (and_then r (λ n c. rest_at k s c.at (ns ++ (n ∷ [])))).end ≡ None → and_then r (λ n c. rest_at k s c.at (ns ++ (n ∷ []))) ≡ malformed
+    go (Some (n, c)) ih d = ih c.at n d
+    go None ih d = refl
 
-pub malformed_zero : (s : List ℕ) (at i : ℕ) → (line_at s at).end ≡ Malformed → get_or (line_at s at).line i 0 ≡ 0
+pub malformed_zero : (s : List ℕ) (at i : ℕ) → (line_at s at).end ≡ None → get_or (line_at s at).line i 0 ≡ 0
 unfolding line_at malformed
 malformed_zero s at i e = rw (malformed_rest field_count s at [] e) (replicate_at field_count i)
 
 pub small_read : (s : List ℕ) (at : ℕ) → Small (line_at s at).line
 small_read s at = go (line_at s at).end refl (line_is s at)
   where
-    go : (d : End) → (line_at s at).end ≡ d → LineIs s at (line_at s at).line d → Small (line_at s at).line
-    go (After c) e h = h.0
-    go Malformed e h = record { small = λ i. omega (arith, malformed_zero s at i e) }
+    go : (d : Option Cursor) → (line_at s at).end ≡ d → LineIs s at (line_at s at).line d → Small (line_at s at).line
+    go (Some c) e h = h.0
+    go None e h = record { small = λ i. omega (arith, malformed_zero s at i e) }
 
 -- for the reader: what it returns, computed and by cases
-pub line_told : (s : List ℕ) (at place : ℕ) (d e : List ℕ) {r : End} → (r ≡ (line_at s at).end) × (e ≡ put d place (line_at s at).line) → LineRead s at place d e r
-line_told s at place d e {r} p = record { end = p.0; numbers = p.1; says = subst (λ (x : End). LineIs s at (line_at s at).line x) (sym p.0) (line_is s at) }
+pub line_told : (s : List ℕ) (at place : ℕ) (d e : List ℕ) {r : Option Cursor} → (r ≡ (line_at s at).end) × (e ≡ put d place (line_at s at).line) → LineRead s at place d e r
+line_told s at place d e {r} p = record { end = p.0; numbers = p.1; says = subst (λ (x : Option Cursor). LineIs s at (line_at s at).line x) (sym p.0) (line_is s at) }

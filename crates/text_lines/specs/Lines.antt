@@ -1,13 +1,9 @@
 -- A line (01, "The sheet"): "five fields of six columns and a line feed: 31 bytes", and what reading and writing one comes to.
 -- Assumes nothing.
-use Rattle.std.specs.Prelude.{ℕ, zero, suc, ◌+◌, ◌*◌, ◌<◌, ◌≡◌, cond, List, [], ◌∷◌, ◌++◌, get_or, take, drop, replicate, eqb}
+use Rattle.std.specs.Prelude.{ℕ, zero, suc, ◌+◌, ◌*◌, ◌<◌, ◌≡◌, cond, List, [], ◌∷◌, ◌++◌, get_or, take, drop, replicate, eqb, Option, Some, None}
 use Rattle.columns.specs.Fields.{columns, field_at}
 use Rattle.columns.specs.Writing.{put}
 use Rattle.columns.specs.declared.Cursor.{Cursor}
-use Rattle.columns.specs.declared.Field.{Field}
-use Rattle.columns.specs.declared.Field.TheVariants.{Number, Malformed as no_number}
-use Rattle.text_lines.specs.declared.End.{End}
-use Rattle.text_lines.specs.declared.End.TheVariants.{After, Malformed}
 
 -- how many fields a line has: the one place of the specification that says so
 abbrev pub field_count : ℕ
@@ -33,19 +29,19 @@ pub record Small (ns : List ℕ) : Type 0 where
 -- what reading a line comes to: its numbers, all 0 where it is malformed, and where it ends
 pub record Reading : Type 0 where
   pub line : List ℕ
-  pub end : End
+  pub end : Option Cursor
 
 -- the answer where there is no line
 unfoldable pub malformed : Reading
-malformed = record { line = replicate field_count 0; end = Malformed }
+malformed = record { line = replicate field_count 0; end = None }
 
 -- the answer after the last field, of a line with the numbers ns: a line feed has to follow
 unfoldable pub end_at : List ℕ → ℕ → List ℕ → Reading
-end_at s at ns = cond (eqb (get_or s at 0) 10) (record { line = ns; end = After (record { at = at + 1 }) }) malformed
+end_at s at ns = cond (eqb (get_or s at 0) 10) (record { line = ns; end = Some (record { at = at + 1 }) }) malformed
 
-abbrev pub and_then : Field → (ℕ → Cursor → Reading) → Reading
-and_then (Number n c) k = k n c
-and_then no_number k = malformed
+abbrev pub and_then : Option (ℕ × Cursor) → (ℕ → Cursor → Reading) → Reading
+and_then (Some (n, c)) k = k n c
+and_then None k = malformed
 
 -- "A line is read field by field from the left": k fields more, after the numbers ns
 unfoldable pub rest_at : ℕ → List ℕ → ℕ → List ℕ → Reading
@@ -57,12 +53,12 @@ unfoldable pub line_at : List ℕ → ℕ → Reading
 line_at s at = rest_at field_count s at []
 
 -- the same, as 01 would say it: the bytes there are a line of numbers below 1,000,000, or they are no such line
-abbrev pub LineIs : List ℕ → ℕ → List ℕ → End → Type 0
-LineIs s at ns (After c) = Small ns × (take line_length (drop at s) ≡ line_of ns) × (c.at ≡ at + line_length)
-LineIs s at ns Malformed = (ms : List ℕ) → Small ms → take line_length (drop at s) ≡ line_of ms → ⊥
+abbrev pub LineIs : List ℕ → ℕ → List ℕ → Option Cursor → Type 0
+LineIs s at ns (Some c) = Small ns × (take line_length (drop at s) ≡ line_of ns) × (c.at ≡ at + line_length)
+LineIs s at ns None = (ms : List ℕ) → Small ms → take line_length (drop at s) ≡ line_of ms → ⊥
 
 -- the line at a cursor is read: its end, and its numbers over those from the place on, which were d and are e
-pub record LineRead (s : List ℕ) (at place : ℕ) (d e : List ℕ) (r : End) : Type 0 where
+pub record LineRead (s : List ℕ) (at place : ℕ) (d e : List ℕ) (r : Option Cursor) : Type 0 where
   pub end : r ≡ (line_at s at).end
   pub numbers : e ≡ put d place (line_at s at).line
   pub says : LineIs s at (line_at s at).line r

@@ -1,14 +1,7 @@
 -- Reading a line. The invariant: the first i numbers of the line stand at their place of what is lent, and the rest of the line is at the cursor.
 -- Assumes nothing.
-use Prim.Native.Nat.{◌-◌, ◌≤◌}
-use mathlib.Core.Path.{◌≡◌}
-use lib.ListN.{length}
-use Rattle.text_lines.specs.Lines.{field_count}
 use Rattle.text_lines.proofs.Lines.{Read}
 use Rattle.text_lines.proofs.read_line.Given as goal
 
 abbrev pub invariant-loop-i : goal.invariant-loop-i
-invariant-loop-i l = (l.i ≤ field_count) × (length l.numbers ≡ length l.initial.numbers) × Read l.s l.initial.c.at l.initial.numbers l.place l.c.at l.i l.numbers
-
-abbrev pub decreases-loop-i : goal.decreases-loop-i
-decreases-loop-i l = field_count - l.i
+invariant-loop-i l = Read l.s l.initial.c.at l.initial.numbers l.place l.c.at l.i l.numbers

@@ -1,15 +1,15 @@
 -- The goals of `write_line` that are left: see Invariants.antt for the idea.
-use Prim.Native.Nat.{◌+◌, ◌*◌}
+use Prim.Native.Nat.{◌*◌}
 use mathlib.Core.Path.{refl}
 use Rattle.text_lines.specs.Lines.{fields_of}
 use Rattle.columns.proofs.Writing.{written_nil}
-use Rattle.text_lines.proofs.Lines.{write_turn, write_room, write_done}
+use Rattle.text_lines.proofs.Lines.{write_turn, write_done}
 use borrow.Author.Rules.{rules}
 use Rattle.text_lines.proofs.write_line.Goals as goal
 
 pub loop-i-init : goal.loop-i-init
 unfolding fields_of
-loop-i-init c = (search rules, refl, written_nil _)
+loop-i-init c = written_nil _
 
 pub write_field-requires : goal.write_field-requires
 write_field-requires c = (search rules, c.requires.1.small c.loop-i.i)
@@ -17,10 +17,9 @@ write_field-requires c = (search rules, c.requires.1.small c.loop-i.i)
 pub loop-i-preserved : goal.loop-i-preserved
 loop-i-preserved c = let l = c.loop-i in
     let a = c.args in
-    let e = write_turn a.out.now l.out _ a.line.now (6 * l.i) l.i refl (search rules) (search rules) l.invariant.1 l.invariant.2 c.write_field.ensures in
-    (search rules, write_room a.out.now _ a.line.now (l.i + 1) (search rules) (search rules) e, e)
+    write_turn a.out.now l.out _ a.line.now (6 * l.i) l.i refl (search rules) (search rules) (search rules) l.invariant c.write_field.ensures
 
 pub returns : goal.returns
 returns c = let l = c.loop-i in
     let a = c.args in
-    write_done a.out.now l.out a.line.now l.i (search rules) (search rules) (search rules) l.invariant.2
+    write_done a.out.now l.out a.line.now l.i (search rules) (search rules) (search rules) l.invariant
