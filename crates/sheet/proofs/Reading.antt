@@ -13,12 +13,13 @@ use Rattle.finite.specs.Tables.{at}
 use Rattle.finite.proofs.Cases.{by_bool, clash}
 use Rattle.finite.proofs.Tests.{is_same, same_is, not_same, and_no_r, told_not_yes, told_not_no}
 use Rattle.text_lines.specs.Lines.{field_count, line_length, line_at}
-use Rattle.text_lines.specs.declared.End.{End}
-use Rattle.text_lines.specs.declared.End.TheVariants.{After, Malformed}
+use Rattle.columns.specs.declared.Cursor.{Cursor}
+use Rattle.std.specs.Prelude.{Option, Some, None, is_some}
 use Rattle.text_lines.proofs.Lines.{malformed_zero}
-use Rattle.sheet.specs.declared.Headed.TheVariants.{Header as accepted, Refused}
+use Rattle.std.specs.Prelude.{Ok, Err}
+use Rattle.refusals.specs.declared.Refusal.TheVariants.{NoHeader, BeyondLimits}
 use Rattle.layout.specs.Headers.{WithinLimits}
-use Rattle.sheet.specs.Sheets.{found, lines_put, all_lines, line_no, is_line, cell, header_by, limits, refusal3, refusal4, header_of, whole, node_line, gene_line, cells_of, node_numbered, gene_fields_fit, gene_numbered}
+use Rattle.sheet.specs.Sheets.{lines_put, all_lines, line_no, is_line, cell, header_by, limits, refusal3, refusal4, header_of, whole, node_line, gene_line, cells_of, node_numbered, gene_fields_fit, gene_numbered}
 use Rattle.sheet.proofs.Limits.{limits_is}
 use Rattle.sheet.proofs.Storing.{one_line, cells_at}
 
@@ -35,16 +36,16 @@ module _ (s h : List ℕ) (eh : h ≡ lines_put (replicate field_count 0) s 1) (
   unfolding all_lines
   found_is = eb ∙ by_bool (is_line s 0) (λ t. rw t) (λ t. rw t)
 
-  pub no_header : not b ≡ true → Refused 3 ≡ header_of s
+  pub no_header : not b ≡ true → Err NoHeader ≡ header_of s
   unfolding header_of refusal3
   no_header t = rw (told_not_no b _ found_is t)
 
-  pub header_beyond : not b ≡ false → (c : Bool) → c ≡ limits h → not c ≡ true → Refused 4 ≡ header_of s
+  pub header_beyond : not b ≡ false → (c : Bool) → c ≡ limits h → not c ≡ true → Err BeyondLimits ≡ header_of s
   unfolding header_of refusal3 refusal4
   header_beyond t c ec u = rw (told_not_yes b _ found_is t, ← line_is, told_not_no c _ ec u)
 
   pub header_within : not b ≡ false → (c : Bool) → c ≡ limits h → not c ≡ false
-      → accepted (record { nodes = at h 0; genes = at h 1; duplication = at h 2; transfer = at h 3; loss = at h 4 }) ≡ header_of s
+      → Ok (record { nodes = at h 0; genes = at h 1; duplication = at h 2; transfer = at h 3; loss = at h 4 }) ≡ header_of s
   unfolding header_of refusal3 refusal4
   header_within t c ec u = rw (told_not_yes b _ found_is t, ← line_is, told_not_yes c _ ec u)
 
@@ -84,14 +85,14 @@ pub gene_told : (cells : List ℕ) (n h : ℕ) (r : Bool)
 unfolding gene_numbered
 gene_told cells n h r e = e
 
-not_found : (d : End) → found d ≡ false → d ≡ Malformed
-not_found (After c) e = clash refl e
-not_found Malformed e = refl
+not_found : (d : Option Cursor) → is_some d ≡ false → d ≡ None
+not_found (Some c) e = clash refl e
+not_found None e = refl
 
 -- where a line's number is not 0, it is well formed
 numbered_line : (s : List ℕ) (i k : ℕ) → k ≢ 0 → same (cell s i 0) k ≡ true → is_line s i ≡ true
 unfolding cell is_line line_no
-numbered_line s i k d t = by_bool (found (line_at s (line_length * i)).end) (λ e. e)
+numbered_line s i k d t = by_bool (is_some (line_at s (line_length * i)).end) (λ e. e)
     (λ e. absurd (d (sym (same_is _ _ t) ∙ malformed_zero s (line_length * i) 0 (not_found (line_at s (line_length * i)).end e))))
 
 numbered : (s : List ℕ) (i k : ℕ) → k ≢ 0 → (is_line s i && same (cell s i 0) k) ≡ same (cell s i 0) k

@@ -16,11 +16,12 @@ use Rattle.finite.proofs.Every.{every_at, is_every, every_same}
 use Rattle.layout.specs.Headers.{WithinLimits}
 use Rattle.layout.specs.declared.Header.{Header}
 use Rattle.text_lines.specs.Lines.{field_count, line_length, line_at, LineIs}
-use Rattle.text_lines.specs.declared.End.{End}
-use Rattle.text_lines.specs.declared.End.TheVariants.{After, Malformed}
+use Rattle.columns.specs.declared.Cursor.{Cursor}
+use Rattle.std.specs.Prelude.{Option, Some, None, is_some}
 use Rattle.text_lines.proofs.Lines.{line_is, small_read, one_line}
-use Rattle.sheet.specs.Sheets.{found, line_no, is_line, cell, header_in, header_by, header_of, nodes, genes, limits, Refusal3, Refusal4, Refusal5, HeadedIs, refusal3, refusal4, whole, node_line, gene_line, refusal5, Line, NodeLine, GeneLine, WellFormed, cells_of, node_numbered, gene_numbered}
-use Rattle.sheet.specs.declared.Headed.{Headed}
+use Rattle.sheet.specs.Sheets.{line_no, is_line, cell, header_in, header_by, header_of, nodes, genes, limits, Refusal3, Refusal4, Refusal5, HeadedIs, refusal3, refusal4, whole, node_line, gene_line, refusal5, Line, NodeLine, GeneLine, WellFormed, cells_of, node_numbered, gene_numbered}
+use Rattle.std.specs.Prelude.{Result}
+use Rattle.refusals.specs.declared.Refusal.{Refusal}
 use Rattle.sheet.proofs.Limits.{limits_is, is_limits}
 use Rattle.sheet.proofs.Reading.{node_numbered_lem, gene_numbered_lem}
 
@@ -29,18 +30,18 @@ pub line_found : (s : List ℕ) (i : ℕ) → is_line s i ≡ true → Line s i 
 unfolding is_line line_no
 line_found s i t = go (line_at s (line_length * i)).end t (line_is s (line_length * i))
   where
-    go : (d : End) → found d ≡ true → LineIs s (line_length * i) (line_at s (line_length * i)).line d → Line s i (line_at s (line_length * i)).line
-    go (After c) t h = record { small = h.0; bytes = h.1 }
-    go Malformed t h = clash t refl
+    go : (d : Option Cursor) → is_some d ≡ true → LineIs s (line_length * i) (line_at s (line_length * i)).line d → Line s i (line_at s (line_length * i)).line
+    go (Some c) t h = record { small = h.0; bytes = h.1 }
+    go None t h = clash t refl
 
 -- a line of numbers is found
 pub found_line : (s : List ℕ) (i : ℕ) (ns : List ℕ) → Line s i ns → is_line s i ≡ true
 unfolding is_line line_no
 found_line s i ns l = go (line_at s (line_length * i)).end (line_is s (line_length * i))
   where
-    go : (d : End) → LineIs s (line_length * i) (line_at s (line_length * i)).line d → found d ≡ true
-    go (After c) h = refl
-    go Malformed h = absurd (h ns l.small l.bytes)
+    go : (d : Option Cursor) → LineIs s (line_length * i) (line_at s (line_length * i)).line d → is_some d ≡ true
+    go (Some c) h = refl
+    go None h = absurd (h ns l.small l.bytes)
 
 -- and has one reading
 pub same_cells : (s : List ℕ) (i : ℕ) (ns : List ℕ) → Line s i ns → (k : ℕ) → k < field_count → cell s i k ≡ at ns k
@@ -159,8 +160,8 @@ headed_is s = by_bool (refusal3 s)
     (λ t. rw t (inr (refl, (reading_4 s f).0 t)))
     (λ e. rw e (record { numbers = (line_no s 0).line; line = header_line s f; header = refl; limits = within_limits s e }))))
 
-pub headed_told : (s : List ℕ) {r : Headed} → r ≡ header_of s → (r ≡ header_of s) × HeadedIs s r
-headed_told s {r} e = (e, subst (λ (x : Headed). HeadedIs s x) (sym e) (headed_is s))
+pub headed_told : (s : List ℕ) {r : Result Header Refusal} → r ≡ header_of s → (r ≡ header_of s) × HeadedIs s r
+headed_told s {r} e = (e, subst (λ (x : Result Header Refusal). HeadedIs s x) (sym e) (headed_is s))
 
 -- what the cells of 1 + n + m lines tell of 5
 module _ (s : List ℕ) (few_nodes : nodes s ≤ 127) (few_genes : genes s ≤ 127) where

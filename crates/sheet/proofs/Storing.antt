@@ -13,11 +13,12 @@ use Rattle.finite.specs.Tables.{at}
 use Rattle.finite.proofs.Cases.{by_eq}
 use Rattle.columns.specs.Writing.{put, written}
 use Rattle.text_lines.specs.Lines.{field_count, line_length, line_at}
-use Rattle.text_lines.specs.declared.End.{End}
+use Rattle.columns.specs.declared.Cursor.{Cursor}
+use Rattle.std.specs.Prelude.{Option, is_some}
 use Rattle.text_lines.proofs.Lines.{length_read}
 use Rattle.layout.specs.Lines.{cell_count}
 use Rattle.columns.proofs.Writing.{length_put}
-use Rattle.sheet.specs.Sheets.{found, line_no, is_line, cell, lines_put, all_lines, cells_of}
+use Rattle.sheet.specs.Sheets.{line_no, is_line, cell, lines_put, all_lines, cells_of}
 
 -- a line has five numbers
 length_no : (s : List ℕ) (i : ℕ) → length (line_no s i).line ≡ field_count
@@ -44,9 +45,9 @@ pub lines_turn : (d s c e : List ℕ) (i : ℕ) → c ≡ lines_put d s i → e 
 unfolding lines_put line_no
 lines_turn d s c e i ec ee = rw (ee, ec, add-one i)
 
-pub all_turn : (s : List ℕ) (i : ℕ) (a b : Bool) (r : End) → a ≡ all_lines s i → r ≡ (line_at s (line_length * i)).end → b ≡ (found r && a) → b ≡ all_lines s (i + 1)
+pub all_turn : (s : List ℕ) (i : ℕ) (a q : Bool) (r : Option Cursor) → a ≡ all_lines s i → r ≡ (line_at s (line_length * i)).end → q ≡ is_some r → (a && q) ≡ all_lines s (i + 1)
 unfolding all_lines is_line line_no
-all_turn s i a b r ea er eb = rw (eb, ea, er, add-one i)
+all_turn s i a q r ea er eq = rw (eq, ea, er, add-one i)
 
 pub lines_done : (d s c : List ℕ) (a : Bool) (n i : ℕ) → i ≤ n → n ≤ i → c ≡ lines_put d s i → a ≡ all_lines s i → (a ≡ all_lines s n) × (c ≡ lines_put d s n)
 lines_done d s c a n i l h ec ea = let q : i ≡ n = omega arith in rw (← q) (ea, ec)

@@ -1,23 +1,16 @@
 -- The sheet and the refusals 3, 4 and 5 (01, "The sheet" and "Refusals", the typist's).
 -- Assumes nothing.
-use Rattle.std.specs.Prelude.{ℕ, zero, suc, ◌+◌, ◌*◌, ◌≤◌, Bool, true, false, cond, ◌&&◌, not, List, ◌≡◌, ◌⊎◌, length, get_or, take, drop, replicate}
+use Rattle.std.specs.Prelude.{ℕ, zero, suc, ◌+◌, ◌*◌, ◌≤◌, Bool, true, cond, ◌&&◌, not, List, ◌≡◌, ◌⊎◌, length, get_or, take, drop, replicate, is_some, Result, Ok, Err}
 use Rattle.finite.specs.Tests.{same, under}
 use Rattle.finite.specs.Range.{every}
 use Rattle.finite.specs.Tables.{at}
 use Rattle.columns.specs.Writing.{put}
 use Rattle.text_lines.specs.Lines.{field_count, line_length, Reading, line_at, line_of, Small}
-use Rattle.text_lines.specs.declared.End.{End}
-use Rattle.text_lines.specs.declared.End.TheVariants.{After, Malformed}
+use Rattle.refusals.specs.declared.Refusal.{Refusal}
+use Rattle.refusals.specs.declared.Refusal.TheVariants.{NoHeader, BeyondLimits}
 use Rattle.layout.specs.Lines.{cell_count}
 use Rattle.layout.specs.Headers.{WithinLimits}
 use Rattle.layout.specs.declared.Header.{Header}
-use Rattle.sheet.specs.declared.Headed.{Headed}
-use Rattle.sheet.specs.declared.Headed.TheVariants.{Header as accepted, Refused}
-
--- whether a line was found
-abbrev pub found : End → Bool
-found (After c) = true
-found Malformed = false
 
 -- line i of the sheet, the header being line 0; a malformed line has five zeros
 unfoldable pub line_no : List ℕ → ℕ → Reading
@@ -25,7 +18,7 @@ line_no s i = line_at s (line_length * i)
 
 -- line i is well formed
 unfoldable pub is_line : List ℕ → ℕ → Bool
-is_line s i = found (line_no s i).end
+is_line s i = is_some (line_no s i).end
 
 -- field k, counted from 0, of line i
 unfoldable pub cell : List ℕ → ℕ → ℕ → ℕ
@@ -58,9 +51,8 @@ unfoldable pub refusal4 : List ℕ → Bool
 refusal4 s = not (limits (line_no s 0).line)
 
 -- what the header comes to
-unfoldable pub header_of : List ℕ → Headed
-header_of s = cond (refusal3 s) (Refused 3) (cond (refusal4 s) (Refused 4)
-    (accepted (header_in s)))
+unfoldable pub header_of : List ℕ → Result Header Refusal
+header_of s = cond (refusal3 s) (Err NoHeader) (cond (refusal4 s) (Err BeyondLimits) (Ok (header_in s)))
 
 -- "total length is not 31 × (1 + n + m)"
 unfoldable pub whole : List ℕ → ℕ → ℕ → Bool
@@ -127,9 +119,9 @@ pub record IsHeader (s : List ℕ) (h : Header) : Type 0 where
   pub header : h ≡ header_by numbers
   pub limits : WithinLimits h
 
-abbrev pub HeadedIs : List ℕ → Headed → Type 0
-HeadedIs s (accepted h) = IsHeader s h
-HeadedIs s (Refused k) = ((k ≡ 3) × Refusal3 s) ⊎ ((k ≡ 4) × Refusal4 s)
+abbrev pub HeadedIs : List ℕ → Result Header Refusal → Type 0
+HeadedIs s (Ok h) = IsHeader s h
+HeadedIs s (Err r) = ((r ≡ NoHeader) × Refusal3 s) ⊎ ((r ≡ BeyondLimits) × Refusal4 s)
 
 -- the numbers of the first k lines, line by line, put over the front of d
 unfoldable pub lines_put : List ℕ → List ℕ → ℕ → List ℕ
@@ -139,7 +131,7 @@ lines_put d s (suc k) = put (lines_put d s k) (field_count * k) (line_no s k).li
 -- whether each of the first k lines is well formed
 unfoldable pub all_lines : List ℕ → ℕ → Bool
 all_lines s zero = true
-all_lines s (suc k) = is_line s k && all_lines s k
+all_lines s (suc k) = all_lines s k && is_line s k
 
 -- the numbers of the first k lines in an array that has room for those of all lines, 0 where no line was read
 unfoldable pub cells_of : List ℕ → ℕ → List ℕ

@@ -1,18 +1,10 @@
--- The goals of `nodes_in_order` that are left: see Invariants.antt for the idea.
-use Prim.Native.Nat.{◌+◌}
-use Rattle.finite.proofs.Every.{every_start, every_turn_not, every_stop_not, every_done}
-use Rattle.sheet.proofs.Reading.{node_told}
-use borrow.Author.Rules.{rules}
+-- The node lines in number: each line bears its node's number.
+-- Assumes nothing.
+use Rattle.std.proofs.Common.{rules}
+use Rattle.finite.proofs.Upto.{every_upto}
+use Rattle.sheet.specs.Sheets.{node_numbered}
 use Rattle.sheet.proofs.nodes_in_order.Goals as goal
 
-pub loop-v-init : goal.loop-v-init
-loop-v-init c = (search rules, every_start _)
-
-pub returns-then-not-bears : goal.returns-then-not-bears
-returns-then-not-bears c = every_stop_not _ _ _ _ (search rules) (node_told c.args.cells.now (c.loop-v.v + 1) c.bears.result c.bears.ensures) c.if-not-bears.true-raw
-
-pub loop-v-preserved : goal.loop-v-preserved
-loop-v-preserved c = (search rules, every_turn_not _ _ _ c.loop-v.invariant.1 (node_told c.args.cells.now (c.loop-v.v + 1) c.bears.result c.bears.ensures) c.if-not-bears.false-raw)
-
 pub returns : goal.returns
-returns c = every_done _ _ _ (search rules) (search rules) c.loop-v.invariant.1
+unfolding node_numbered
+returns c = every_upto _ _ c.all.ensures.ran c.new.ensures.start c.new.ensures.end c.new.ensures.exhausted (λ x b q k. search rules)
