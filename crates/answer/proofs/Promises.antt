@@ -15,9 +15,11 @@ use Rattle.acceptance.specs.inner.Admitted.{Admitted}
 use Rattle.family.specs.Families.{Contents}
 use Rattle.family.specs.Reports.{report_in}
 use Rattle.family.proofs.Reported.{is_reported, report_least}
-use Rattle.answer.specs.declared.Answer.{Answer}
+use Rattle.std.specs.Prelude.{Result, Ok, Err}
+use Rattle.refusals.specs.declared.Refusal.{Refusal as Reason}
+use Rattle.refusals.specs.Numbers.{number, refused}
+use Rattle.refusals.proofs.Numbers.{some, is_refusal}
 use Rattle.answer.specs.Outcome.{result_by, scratch_by, Outcome, IsRefused, IsReport, Says, Promise}
-use Rattle.answer.proofs.Answers.{refused_answer, report_answer}
 
 -- refusals whose tests tell their conditions, numbered up to n, and contents that are admitted where none applies
 module _ (n : ℕ) (rs : List Refusal) (X : Contents) (tells : AllTell rs) (numbers : verdict rs ≤ n) (admitted : verdict rs ≡ 0 → Admitted X.nodes X.genes X.costs) where
@@ -44,15 +46,15 @@ module _ (n : ℕ) (rs : List Refusal) (X : Contents) (tells : AllTell rs) (numb
       reported = is_reported X (admitted z);
     }
 
-    says : (r : Answer) → Outcome (verdict rs) X d e u t r → Says n rs X d e u t r
-    says r o = by_eq (verdict rs) 0
-        (λ z. subst (λ (a : Answer). Says n rs X d e u t a) (sym (o.answer ∙ report_answer (verdict rs) X z)) (report_says o.result o.scratch z))
-        (λ z. subst (λ (a : Answer). Says n rs X d e u t a) (sym (o.answer ∙ refused_answer (verdict rs) (verdict rs) X z refl)) (refused_says o.result o.scratch z))
+    says : (r : Result ℕ Reason) → Outcome (verdict rs) X d e u t r → Says n rs X d e u t r
+    says (Ok b) o = let z : verdict rs ≡ 0 = sym o.refusal in
+        subst (λ (a : Result ℕ Reason). Says n rs X d e u t a) (sym (o.report z)) (report_says o.result o.scratch z)
+    says (Err x) o = rw o.refusal (refused_says o.result o.scratch (λ z. omega (arith, some x, o.refusal)))
 
-    pub promise : (r : Answer) → Outcome (verdict rs) X d e u t r → Promise n rs X d e u t r
+    pub promise : (r : Result ℕ Reason) → Outcome (verdict rs) X d e u t r → Promise n rs X d e u t r
     promise r o = record {
       says = says r o;
-      refuses = λ k f. o.answer ∙ refused_answer k (verdict rs) X (first_some rs tells k f) (first_told rs tells k f);
-      scores = λ none. o.answer ∙ report_answer (verdict rs) X (none_told rs tells none);
+      refuses = λ x f. is_refusal r x (o.refusal ∙ first_told rs tells (number x) f);
+      scores = λ none. o.report (none_told rs tells none);
       outcome = o;
     }

@@ -1,24 +1,20 @@
 -- What a call that scores a family answers and leaves (01, "Refusals"), by its refusals in the order of checking, the last of their numbers, and the
 -- contents that it scores where none of them applies; and the promise of such a call, part by part.
 -- Assumes nothing.
-use Rattle.std.specs.Prelude.{◌≡◌, cond, List, ◌++◌, ℕ, ◌*◌, ◌≤◌, ◌<◌, length, drop}
+use Rattle.std.specs.Prelude.{◌≡◌, cond, List, ◌++◌, ℕ, ◌*◌, ◌≤◌, ◌<◌, length, drop, Result, Ok, Err}
 use Rattle.finite.specs.Tests.{same}
 use Rattle.finite.specs.Refusals.{least_report, Refusal, verdict, First, NoneApplies}
 use Rattle.histories.specs.Words.{words}
 use Rattle.columns.specs.Writing.{written}
 use Rattle.family.specs.Families.{Contents, family_in}
 use Rattle.family.specs.Reports.{report_in, Reported}
-use Rattle.answer.specs.declared.Answer.{Answer}
-use Rattle.answer.specs.declared.Answer.TheVariants.{Report, Refused}
+use Rattle.refusals.specs.declared.Refusal.{Refusal as Reason}
+use Rattle.refusals.specs.Numbers.{number, refused}
 
 -- the paper's number for each case: "A refusal returns its number .. A scored sheet returns how many bytes it wrote to the result"
-abbrev pub number_of : Answer → ℕ
-number_of (Report bytes) = bytes
-number_of (Refused k) = k
-
--- the answer where refusal k is the first that applies, 0 for none
-unfoldable pub answer_by : ℕ → Contents → Answer
-answer_by k X = cond (same k 0) (Report (length (report_in X))) (Refused k)
+abbrev pub number_of : Result ℕ Reason → ℕ
+number_of (Ok bytes) = bytes
+number_of (Err r) = number r
 
 -- "result and scratch are untouched" by a refusal; else the report, and the table of the whole network, with what stood behind them
 unfoldable pub result_by : ℕ → Contents → List ℕ → List ℕ
@@ -27,9 +23,10 @@ result_by k X d = cond (same k 0) (written d (report_in X)) d
 unfoldable pub scratch_by : ℕ → Contents → List ℕ → List ℕ
 scratch_by k X u = cond (same k 0) (words (family_in X) ++ drop (X.genes.count * X.nodes.size) u) u
 
--- the outcome of a call: refusal k is the first that applies, or X is scored; the result was d and is e, the scratch was u and is t
-pub record Outcome (k : ℕ) (X : Contents) (d e u t : List ℕ) (r : Answer) : Type 0 where
-  pub answer : r ≡ answer_by k X
+-- the outcome of a call: refusal k is the first that applies, or, where k is 0, X is scored; the result was d and is e, the scratch was u and is t
+pub record Outcome (k : ℕ) (X : Contents) (d e u t : List ℕ) (r : Result ℕ Reason) : Type 0 where
+  pub refusal : refused r ≡ k
+  pub report : k ≡ 0 → r ≡ Ok (length (report_in X))
   pub result : e ≡ result_by k X d
   pub scratch : t ≡ scratch_by k X u
 
@@ -54,16 +51,16 @@ module _ (last : ℕ) (refusals : List Refusal) (X : Contents) (result result_af
     -- demands 2 and 3
     pub reported : Reported X
 
-  abbrev pub Says : Answer → Type 0
-  Says (Report b) = IsReport b
-  Says (Refused k) = IsRefused k
+  abbrev pub Says : Result ℕ Reason → Type 0
+  Says (Ok b) = IsReport b
+  Says (Err r) = IsRefused (number r)
 
 -- the promise of a call with these refusals, numbered up to last, which scores X
-pub record Promise (last : ℕ) (refusals : List Refusal) (X : Contents) (result result_after scratch scratch_after : List ℕ) (answer : Answer) : Type 0 where
+pub record Promise (last : ℕ) (refusals : List Refusal) (X : Contents) (result result_after scratch scratch_after : List ℕ) (answer : Result ℕ Reason) : Type 0 where
   -- demand 1: a report or a refusal, each under its condition only
   pub says : Says last refusals X result result_after scratch scratch_after answer
   -- and wherever its condition holds
-  pub refuses : (k : ℕ) → First refusals k → answer ≡ Refused k
-  pub scores : NoneApplies refusals → answer ≡ Report (length (report_in X))
+  pub refuses : (r : Reason) → First refusals (number r) → answer ≡ Err r
+  pub scores : NoneApplies refusals → answer ≡ Ok (length (report_in X))
   -- the same as equations that compute: the answer, the result and the scratch follow from the refusals' tests and the contents
   pub outcome : Outcome (verdict refusals) X result result_after scratch scratch_after answer

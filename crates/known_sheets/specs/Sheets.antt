@@ -2,8 +2,8 @@
 -- and the numbers quoted are 01's. The lines and words that 01 does not print were worked out from the rules apart from the program, those of cases 3
 -- and 4 and of `eight` by hand. compare/tests/known_sheets.rs has both implementations agree on cases 1 to 12.
 -- Assumes nothing.
-use Rattle.std.specs.Prelude.{List, [], ◌∷◌, ◌++◌, ℕ}
-use Rattle.answer.specs.declared.Answer.TheVariants.{Report, Refused}
+use Rattle.std.specs.Prelude.{List, [], ◌∷◌, ◌++◌, ℕ, Ok, Err}
+use Rattle.refusals.specs.declared.Refusal.TheVariants.{ShortResult, BeyondLimits, BadStamps, CrowdedComponent, BadGeneSpecies}
 use Rattle.sheet_rows.specs.Rows.{ln, Row}
 
 -- the word that stands for no history
@@ -42,7 +42,7 @@ case1 = record {
   sheet = ln "     7     5     2     3     1" ++ network_k ++ genes_k;
   result = 5952;
   scratch = 16129;
-  answer = Report 248;
+  answer = Ok 248;
   report = ln "     3     0     1     0     2"
       ++ ln "     4     7     5     1     1"
       ++ ln "     3     4     1     1     1"
@@ -64,7 +64,7 @@ case2 = record {
   sheet = ln "     7     5     2     4     1" ++ network_k ++ genes_k;
   result = 5952;
   scratch = 16129;
-  answer = Report 248;
+  answer = Ok 248;
   report = ln "     4     0     1     0     2"
       ++ ln "     5     7     5     1     1"
       ++ ln "     3     4     1     1     1"
@@ -86,7 +86,7 @@ case3 = record {
   sheet = ln "     7     5     2     5     1" ++ network_k ++ genes_k;
   result = 5952;
   scratch = 16129;
-  answer = Report 248;
+  answer = Ok 248;
   report = ln "     5     1     0     3     2"
       ++ ln "     5     7     5     1     1"
       ++ ln "     3     2     0     1     1"
@@ -109,7 +109,7 @@ case4 = record {
   sheet = ln "     7     5     2     3     1" ++ network_k ++ genes322;
   result = 5952;
   scratch = 16129;
-  answer = Report 248;
+  answer = Ok 248;
   report = ln "     5     1     0     3     2"
       ++ ln "     4     7     5     1     1"
       ++ ln "     3     2     0     1     1"
@@ -131,7 +131,7 @@ case5 = record {
   sheet = ln "     7     5     2     2     1" ++ network_k ++ genes322;
   result = 5952;
   scratch = 16129;
-  answer = Report 248;
+  answer = Ok 248;
   report = ln "     5     1     0     3     2"
       ++ ln "     3     7     5     1     1"
       ++ ln "     3     2     0     1     1"
@@ -153,7 +153,7 @@ case6 = record {
   sheet = ln "     7     1     2     3     1" ++ network_k ++ ln "     1     0     2     0     0";
   result = 5952;
   scratch = 16129;
-  answer = Report 124;
+  answer = Ok 124;
   report = ln "     0     0     0     0     2"
       ++ ln "     0     7     1     1     1"
       ++ ln "     3     2     0     1     1"
@@ -169,7 +169,7 @@ case7 = record {
       ++ ln "     1     0     1     0     0";
   result = 5952;
   scratch = 16129;
-  answer = Report 93;
+  answer = Ok 93;
   report = ln "     0     0     0     0     0"
       ++ ln "     0     1     1     0     0"
       ++ ln "     1     1     0     0     0";
@@ -186,7 +186,7 @@ case8 = record {
       ++ ln "     3     1     1     0     0";
   result = 5952;
   scratch = 16129;
-  answer = Report 155;
+  answer = Ok 155;
   report = ln "     2     1     0     0     0"
       ++ ln "     2     1     3     0     0"
       ++ ln "     1     1     2     0     0"
@@ -209,7 +209,7 @@ case9 = record {
       ++ genes_k;
   result = 5952;
   scratch = 16129;
-  answer = Refused 7;
+  answer = Err BadStamps;
   report = [];
   words = [];
 }
@@ -225,7 +225,7 @@ case10 = record {
       ++ ln "     5     3     3     0     0";
   result = 5952;
   scratch = 16129;
-  answer = Refused 13;
+  answer = Err BadGeneSpecies;
   report = [];
   words = [];
 }
@@ -236,7 +236,7 @@ case11 = record {
   sheet = ln "     7     5    99     3     1" ++ network_k ++ genes_k;
   result = 5952;
   scratch = 16129;
-  answer = Report 248;
+  answer = Ok 248;
   report = ln "     3     0     1     0     2"
       ++ ln "     4     7     5     1     1"
       ++ ln "     3     4     1     1     1"
@@ -258,7 +258,7 @@ case11_refused = record {
   sheet = ln "     7     5   100     3     1" ++ network_k ++ genes_k;
   result = 5952;
   scratch = 16129;
-  answer = Refused 4;
+  answer = Err BeyondLimits;
   report = [];
   words = [];
 }
@@ -269,7 +269,7 @@ case12 = record {
   sheet = ln "     7     5     2     3     1" ++ network_k ++ genes_k;
   result = 5952;
   scratch = 16129;
-  answer = Report 248;
+  answer = Ok 248;
   report = ln "     3     0     1     0     2"
       ++ ln "     4     7     5     1     1"
       ++ ln "     3     4     1     1     1"
@@ -291,7 +291,7 @@ case12_refused = record {
   sheet = ln "     7     5     2     3     1" ++ network_k ++ genes_k;
   result = 5951;
   scratch = 16129;
-  answer = Refused 2;
+  answer = Err ShortResult;
   report = [];
   words = [];
 }
@@ -336,7 +336,7 @@ eight = record {
       ++ ln "     1     0     1     0     0";
   result = 5952;
   scratch = 16129;
-  answer = Report 341;
+  answer = Ok 341;
   report = ln "     0     0     0     0   256"
       ++ ln "     0    33     1     8     1"
       ++ ln "     3     1     0     1     8"
@@ -396,7 +396,7 @@ nine = record {
       ++ ln "     1     0     1     0     0";
   result = 5952;
   scratch = 16129;
-  answer = Refused 11;
+  answer = Err CrowdedComponent;
   report = [];
   words = [];
 }

@@ -6,15 +6,16 @@ use mathlib.Core.List.{List}
 use Prim.Native.Nat.{ℕ, ◌<◌}
 use native.Mathlib.Omega.{arith}
 use lib.ListN.{length, take}
-use Rattle.finite.specs.Refusals.{least_report, Refusal}
+use Rattle.finite.specs.Refusals as Checks
 use Rattle.finite.proofs.Tests.{is_same, not_same}
 use Rattle.columns.specs.Writing.{written}
 use Rattle.columns.proofs.Writing.{length_written}
 use Rattle.family.specs.Families.{Contents}
 use Rattle.family.specs.Reports.{report_in}
 use Rattle.family.specs.Buffers.{least_words, least_bytes}
-use Rattle.answer.specs.declared.Answer.{Answer}
-use Rattle.answer.specs.declared.Answer.TheVariants.{Report, Refused}
+use Rattle.std.specs.Prelude.{Result, Ok, Err}
+use Rattle.refusals.specs.declared.Refusal.{Refusal}
+use Rattle.refusals.specs.Numbers.{number}
 use Rattle.score.specs.Contents.{contents_of}
 use Rattle.score.specs.Refusals.{refusal}
 use Rattle.score.specs.Outcome.{Promise}
@@ -25,7 +26,7 @@ use Rattle.reply.specs.Replies.{longest_sheet, reply_of, Replied}
 use Rattle.reply.proofs.Cutting.{cut}
 use Rattle.reply.proofs.Told.{length_line}
 
-module _ (text : List ℕ) (bytes : ℕ) (d e u t : List ℕ) (r : Answer) (long : longest_sheet < length text) (ld : length d ≡ least_bytes) (lu : length u ≡ least_words)
+module _ (text : List ℕ) (bytes : ℕ) (d e u t : List ℕ) (r : Result ℕ Refusal) (long : longest_sheet < length text) (ld : length d ≡ least_bytes) (lu : length u ≡ least_words)
     (p : Promise (take bytes text) d e u t r) where
   abbrev s : List ℕ
   s = take bytes text
@@ -33,18 +34,18 @@ module _ (text : List ℕ) (bytes : ℕ) (d e u t : List ℕ) (r : Answer) (long
   same_reply : (w : List ℕ) → take (length text) w ≡ s → reply_of s ≡ reply_of w
   same_reply w q = ap reply_of (sym q) ∙ cut w (length text) long
 
-  report_reply : (b : ℕ) → r ≡ Report b → reply_of s ≡ report_in (contents_of s)
+  report_reply : (b : ℕ) → r ≡ Ok b → reply_of s ≡ report_in (contents_of s)
   unfolding reply_of refusal
   report_reply b q = rw (is_same (ap (λ (x : ℕ). refusal s x least_words) (sym ld) ∙ ap (λ (x : ℕ). refusal s (length d) x) (sym lu) ∙ verdict_report p q))
 
-  refused_reply : (k : ℕ) → r ≡ Refused k → reply_of s ≡ refused_line k
+  refused_reply : (x : Refusal) → r ≡ Err x → reply_of s ≡ refused_line (number x)
   unfolding reply_of refusal
-  refused_reply k q =
-      let v : refusal s least_bytes least_words ≡ k = ap (λ (x : ℕ). refusal s x least_words) (sym ld) ∙ ap (λ (x : ℕ). refusal s (length d) x) (sym lu) ∙ verdict_refused p q in
+  refused_reply x q =
+      let v : refusal s least_bytes least_words ≡ number x = ap (λ (x : ℕ). refusal s x least_words) (sym ld) ∙ ap (λ (x : ℕ). refusal s (length d) x) (sym lu) ∙ verdict_refused p q in
       let z = (says_of p q).low in
-      rw (v, not_same {m = k} {n = 0} (λ y. omega arith))
+      rw (v, not_same {m = number x} {n = 0} (λ y. omega arith))
 
-  pub replied_report : (b : ℕ) → r ≡ Report b → Replied text bytes d e b
+  pub replied_report : (b : ℕ) → r ≡ Ok b → Replied text bytes d e b
   replied_report b q =
       let i = says_of p q in
       record {
@@ -53,17 +54,17 @@ module _ (text : List ℕ) (bytes : ℕ) (d e u t : List ℕ) (r : Answer) (long
         fits = report_fits p q;
       }
 
-  pub replied_refused : (k : ℕ) → r ≡ Refused k → (x : List ℕ) → x ≡ written e (refused_line k) → (n : ℕ) → n ≡ 14 → Replied text bytes d x n
-  replied_refused k q x ex n en =
+  pub replied_refused : (x : Refusal) → r ≡ Err x → (y : List ℕ) → y ≡ written e (refused_line (number x)) → (n : ℕ) → n ≡ 14 → Replied text bytes d y n
+  replied_refused x q y ey n en =
       let i = says_of p q in
-      let f : x ≡ written d (refused_line k) = ex ∙ ap (λ (y : List ℕ). written y (refused_line k)) i.result_kept in
+      let k : ℕ = number x in
+      let f : y ≡ written d (refused_line k) = ey ∙ ap (λ (z : List ℕ). written z (refused_line k)) i.result_kept in
       record {
-        output = λ w h. f ∙ ap (written d) (sym (refused_reply k q) ∙ same_reply w h);
-        length_is = λ w h. en ∙ sym (length_line k) ∙ ap length (sym (refused_reply k q) ∙ same_reply w h);
+        output = λ w h. f ∙ ap (written d) (sym (refused_reply x q) ∙ same_reply w h);
+        length_is = λ w h. en ∙ sym (length_line k) ∙ ap length (sym (refused_reply x q) ∙ same_reply w h);
         fits = omega (arith, ap length f, length_written d (refused_line k) (omega (arith, length_line k)), length_line k);
       }
 
--- a refusal's number and its line fit, whatever the room for the text
-pub refusal_fits : {n : ℕ} {rs : List Refusal} {X : Contents} {d e u t : List ℕ} {r : Answer} → Call.Promise n rs X d e u t r → (k : ℕ) → r ≡ Refused k
-    → (k < least_report) × (length e ≡ length d)
-refusal_fits p k q = let i = says_of p q in (i.apart, ap length i.result_kept)
+-- a refusal leaves the result as long as it was
+pub refusal_keeps : {n : ℕ} {rs : List Checks.Refusal} {X : Contents} {d e u t : List ℕ} {r : Result ℕ Refusal} → Call.Promise n rs X d e u t r → (x : Refusal) → r ≡ Err x → length e ≡ length d
+refusal_keeps p x q = ap length (says_of p q).result_kept

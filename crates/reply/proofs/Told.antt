@@ -10,7 +10,7 @@ use Rattle.columns.specs.Writing.{written}
 use Rattle.columns.proofs.Columns.{length_columns}
 use Rattle.reply.specs.Refused.{refused_word, refused_line}
 
-pub told : (k : ℕ) (y : List ℕ) → y ≡ written (0 ∷ 0 ∷ 0 ∷ 0 ∷ 0 ∷ 0 ∷ 10 ∷ []) (columns k) → refused_word ++ (y ++ []) ≡ refused_line k
+pub told : (k : ℕ) (y : List ℕ) → y ≡ written (32 ∷ 32 ∷ 32 ∷ 32 ∷ 32 ∷ 48 ∷ 10 ∷ []) (columns k) → refused_word ++ (y ++ []) ≡ refused_line k
 unfolding refused_line written
 told k y e = ap (refused_word ++◌) (append-nil y ∙ (rw (length_columns k) at e))
 

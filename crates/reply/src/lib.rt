@@ -4,11 +4,11 @@
 ghost use Rattle.std.specs.Prelude.{◌≡◌, ◌≤◌, ◌<◌, length};
 ghost use Rattle.columns.specs.Writing.{written};
 ghost use Rattle.family.specs.Buffers.{least_bytes};
-ghost use Rattle.finite.specs.Refusals.{least_report};
+ghost use Rattle.refusals.specs.Numbers.{number};
 ghost use Rattle.reply.specs.Refused.{refused_line};
 ghost use Rattle.reply.specs.Replies.{longest_sheet, Replied};
 
-use answer::Answer;
+use refusals::Refusal;
 
 // The room for a sheet that is read: one byte more than the longest has, so that a longer one is noticed.
 pub const SHEET: usize = text_lines::LINE * (1 + 127 + 127) + 1;
@@ -16,36 +16,33 @@ pub const SHEET: usize = text_lines::LINE * (1 + 127 + 127) + 1;
 const LINE: usize = 14;
 
 // The line that tells a refusal.
-fn refused_line(k: u32) -> [u8; LINE]
-    requires { k < least_report }
-    ensures { result ≡ refused_line k }
+fn refused_line(refusal: Refusal) -> [u8; LINE]
+    ensures { result ≡ refused_line (number refusal) }
 {
-    let mut line = [
-        b'r', b'e', b'f', b'u', b's', b'e', b'd', 0, 0, 0, 0, 0, 0, 10,
-    ];
-    columns::write_field(&mut line[7..], k);
+    let mut line = *b"refused      0\n";
+    columns::write_field(&mut line[7..], refusal.number());
     line
 }
 
 // Writes that line to the front of what is lent, and returns its length.
-fn write_refusal(out: &mut [u8], k: u32) -> usize
-    requires { (k < least_report) × (14 ≤ length out.old) }
-    ensures { (out.new ≡ written out.old (refused_line k)) × (result ≡ 14) }
+fn write_refusal(out: &mut [u8], refusal: Refusal) -> usize
+    requires { 14 ≤ length out.old }
+    ensures { (out.new ≡ written out.old (refused_line (number refusal))) × (result ≡ 14) }
 {
-    let line = refused_line(k);
+    let line = refused_line(refusal);
     out[..LINE].copy_from_slice(&line);
     LINE
 }
 
-// Writes the report of the sheet that is read into a text, or the line of its refusal, and returns how many bytes that is.
+// Writes the report of the sheet that is read into a text, or the line of its refusal, and returns how many bytes that is. The text is lent whole, with
+// the count beside it: that it has room for more than the longest sheet is what tells a sheet that was read whole from one that was cut.
 pub fn reply(text: &[u8], bytes: usize, out: &mut [u8]) -> usize
     requires { (longest_sheet < length text.now) × (bytes ≤ length text.now) × (length out.old ≡ least_bytes) }
     ensures { Replied text.now bytes out.old out.new result }
 {
-    let mut scratch = [0u32; score::LEAST_WORDS];
-    let answer = score::score(&text[..bytes], out, &mut scratch);
-    match answer {
-        Answer::Report(length) => length,
-        Answer::Refused(k) => write_refusal(out, k),
+    let mut scratch = [0; score::LEAST_WORDS];
+    match score::score(&text[..bytes], out, &mut scratch) {
+        Ok(length) => length,
+        Err(refusal) => write_refusal(out, refusal),
     }
 }

@@ -25,12 +25,13 @@ use Rattle.network.specs.Refusals.{network_refusals}
 use Rattle.network.proofs.Acceptance as Acceptance
 use Rattle.components.specs.inner.Filling.{Dated}
 use Rattle.sheet.specs.Sheets.{header_in, nodes, genes, line_no, limits, refusal3, refusal4, refusal5, header_of, whole, node_line, gene_line, cell, cells_of, node_numbered, gene_numbered}
-use Rattle.sheet.specs.declared.Headed.TheVariants.{Header as accepted, Refused as refused_header}
+use Rattle.std.specs.Prelude.{Result, Ok, Err}
+use Rattle.refusals.specs.declared.Refusal.{Refusal}
+use Rattle.refusals.specs.declared.Refusal.TheVariants.{ShortScratch, ShortResult, NoHeader, BeyondLimits, BadLines}
+use Rattle.refusals.specs.Numbers.{number}
 use Rattle.sheet.proofs.Limits.{limits_is}
 use Rattle.sheet.proofs.Storing.{cells_at}
 use Rattle.sheet.proofs.Refusals.{nodes_told, genes_told, cell_small}
-use Rattle.answer.specs.declared.Answer.{Answer}
-use Rattle.answer.specs.declared.Answer.TheVariants.{Refused}
 use Rattle.family.specs.Families.{Contents}
 use Rattle.family.specs.Buffers.{least_words, least_bytes}
 use Rattle.family.specs.inner.Stages.{contents_by}
@@ -48,29 +49,29 @@ pub record HeaderIs (s : List ℕ) (h : Header) : Type 0 where
   pub header : h ≡ header_in s
   pub limited : WithinLimits h
 
-no_header : {A : Type 0} {h : Header} {k : ℕ} → accepted h ≡ refused_header k → A
+no_header : {A : Type 0} {h : Header} {r : Refusal} → Ok h ≡ Err r → A
 no_header e = let z : ◌≡◌ {A = ℕ} 0 1 = cc in absurd (omega arith)
 
-pub header_is : (s : List ℕ) (h : Header) → accepted h ≡ header_of s → HeaderIs s h
+pub header_is : (s : List ℕ) (h : Header) → Ok h ≡ header_of s → HeaderIs s h
 unfolding header_of refusal4
 header_is s h e = by_bool (refusal3 s) (λ t. no_header (rw t at e)) (λ t.
     by_bool (not (limits (line_no s 0).line)) (λ f. no_header (rw (t, f) at e)) (λ f.
-    let q : accepted h ≡ accepted (header_in s) = rw (t, f) at e in
+    let q : Ok h ≡ Ok (header_in s) = rw (t, f) at e in
     let z : h ≡ header_in s = kind q in
     record { three = t; four = f; header = z; limited = rw z (limits_is _ (not_false _ f)) }))
   where
-    kind : {g h : Header} → accepted g ≡ accepted h → g ≡ h
+    kind : {g h : Header} → ◌≡◌ {A = Result Header Refusal} (Ok g) (Ok h) → g ≡ h
     kind e = cc
 
-pub header_refused : (s : List ℕ) (k : ℕ) → refused_header k ≡ header_of s → (k ≢ 0) × ((b w : ℕ) → least_bytes ≤ b → least_words ≤ w → refusal s b w ≡ k)
+pub header_refused : (s : List ℕ) (r : Refusal) → Err r ≡ header_of s → (b w : ℕ) → least_bytes ≤ b → least_words ≤ w → refusal s b w ≡ number r
 unfolding header_of
-header_refused s k e = by_bool (refusal3 s)
-    (λ t. let q : k ≡ 3 = kind (rw t at e) in (λ z. omega arith, λ b w lb lw. refusal_3 s b w lw lb t ∙ sym q))
+header_refused s r e b w lb lw = by_bool (refusal3 s)
+    (λ t. let q : r ≡ NoHeader = kind (rw t at e) in refusal_3 s b w lw lb t ∙ ap number (sym q))
     (λ t. by_bool (refusal4 s)
-    (λ f. let q : k ≡ 4 = kind (rw (t, f) at e) in (λ z. omega arith, λ b w lb lw. refusal_4 s b w lw lb t f ∙ sym q))
+    (λ f. let q : r ≡ BeyondLimits = kind (rw (t, f) at e) in refusal_4 s b w lw lb t f ∙ ap number (sym q))
     (λ f. no_header (sym (rw (t, f) at e))))
   where
-    kind : {j : ℕ} → refused_header k ≡ refused_header j → k ≡ j
+    kind : {q : Refusal} → ◌≡◌ {A = Result Header Refusal} (Err r) (Err q) → r ≡ q
     kind e = cc
 
 module _ (s : List ℕ) (h : Header) (k : HeaderIs s h) where
@@ -153,23 +154,23 @@ module _ (s : List ℕ) (h : Header) (k : HeaderIs s h) where
     }
 
     -- the outcome of the lines is the sheet's
-    pub five_passed : (d e u t : List ℕ) (r : Answer) → least_bytes ≤ length d → least_words ≤ length u → refusal5 s ≡ false → OutcomeBy h cells d e u t r → OutcomeOf s d e u t r
+    pub five_passed : (d e u t : List ℕ) (r : Result ℕ Refusal) → least_bytes ≤ length d → least_words ≤ length u → refusal5 s ≡ false → OutcomeBy h cells d e u t r → OutcomeOf s d e u t r
     five_passed d e u t r lb lw f o =
         let q = refusal_later s (length d) (length u) lw lb k.three k.four f in
         rw q (subst (λ (X : Contents). Outcome (verdict (curator_refusals X)) X d e u t r) contents_are o)
 
-  pub five_refused : (d u : List ℕ) → least_bytes ≤ length d → least_words ≤ length u → refusal5 s ≡ true → OutcomeOf s d d u u (Refused 5)
-  five_refused d u lb lw t = refuses _ 5 (contents_of s) d u (refusal_5 s (length d) (length u) lw lb k.three k.four t) (λ z. omega arith)
+  pub five_refused : (d u : List ℕ) → least_bytes ≤ length d → least_words ≤ length u → refusal5 s ≡ true → OutcomeOf s d d u u (Err BadLines)
+  five_refused d u lb lw t = refuses _ BadLines (contents_of s) d u (refusal_5 s (length d) (length u) lw lb k.three k.four t)
 
 -- the outcomes before the header
-pub words_refused : (s d u : List ℕ) → length u < least_words → OutcomeOf s d d u u (Refused 1)
-words_refused s d u l = refuses _ 1 (contents_of s) d u (refusal_1 s (length d) (length u) l) (λ z. omega arith)
+pub words_refused : (s d u : List ℕ) → length u < least_words → OutcomeOf s d d u u (Err ShortScratch)
+words_refused s d u l = refuses _ ShortScratch (contents_of s) d u (refusal_1 s (length d) (length u) l)
 
-pub bytes_refused : (s d u : List ℕ) → least_words ≤ length u → length d < least_bytes → OutcomeOf s d d u u (Refused 2)
-bytes_refused s d u lw l = refuses _ 2 (contents_of s) d u (refusal_2 s (length d) (length u) lw l) (λ z. omega arith)
+pub bytes_refused : (s d u : List ℕ) → least_words ≤ length u → length d < least_bytes → OutcomeOf s d d u u (Err ShortResult)
+bytes_refused s d u lw l = refuses _ ShortResult (contents_of s) d u (refusal_2 s (length d) (length u) lw l)
 
-pub header_outcome : (s d u : List ℕ) (k : ℕ) → refused_header k ≡ header_of s → least_bytes ≤ length d → least_words ≤ length u → OutcomeOf s d d u u (Refused k)
-header_outcome s d u k e lb lw = let h = header_refused s k e in refuses _ k (contents_of s) d u (h.1 (length d) (length u) lb lw) h.0
+pub header_outcome : (s d u : List ℕ) (r : Refusal) → Err r ≡ header_of s → least_bytes ≤ length d → least_words ≤ length u → OutcomeOf s d d u u (Err r)
+header_outcome s d u r e lb lw = refuses _ r (contents_of s) d u (header_refused s r e (length d) (length u) lb lw)
 
 -- a network that passes 6 to 10 is sound
 pub sound_in : (n : ℕ) (l : List ℕ) → verdict (network_refusals (nodes_in n l)) ≡ 0 → Sound (network (nodes_in n l))

@@ -18,7 +18,8 @@ use Rattle.network.proofs.Acceptance.{none_outside}
 use Rattle.components.specs.Refusals.{component_refusals}
 use Rattle.gene_tree.specs.Refusals.{gene_refusals, species_refusals}
 use Rattle.acceptance.specs.inner.Admitted.{Admitted}
-use Rattle.answer.specs.declared.Answer.{Answer}
+use Rattle.std.specs.Prelude.{Result}
+use Rattle.refusals.specs.declared.Refusal.{Refusal}
 use Rattle.answer.proofs.Promises as Call
 use Rattle.score.specs.Contents.{node_lines, gene_lines, contents_of}
 use Rattle.score.specs.Refusals.{buffer_refusals, text_refusals, curator_refusals, refusals, refusal}
@@ -54,7 +55,7 @@ all_low : (s : List ℕ) (b w : ℕ) → Low 13 (refusals s b w)
 unfolding Low refusals buffer_refusals text_refusals curator_refusals network_refusals after_six shape_refusals after_eight component_refusals gene_refusals species_refusals
 all_low s b w = (omega arith, (omega arith, (omega arith, (omega arith, (omega arith, (omega arith, (omega arith, (omega arith, (omega arith, (omega arith, (omega arith, (omega arith, (omega arith, tt)))))))))))))
 
-pub promise : (s d e u t : List ℕ) (r : Answer) → OutcomeOf s d e u t r → Promise s d e u t r
+pub promise : (s d e u t : List ℕ) (r : Result ℕ Refusal) → OutcomeOf s d e u t r → Promise s d e u t r
 unfolding refusal
 promise s d e u t r o =
     let b : ℕ = length d in

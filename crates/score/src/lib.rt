@@ -15,7 +15,7 @@ use answer::Answer;
 use layout::Header;
 use layout::lines::Lines;
 use layout::parts::Parts;
-use sheet::Headed;
+use refusals::Refusal;
 
 // The least scratch, in words, and the least result, in bytes.
 pub const LEAST_WORDS: usize = 16129;
@@ -33,11 +33,8 @@ fn score_genes(
     requires { Sized h (length res.old) (length scratch.old) × Curated h lines.now × Parted (network (nodes_in h.nodes lines.now)) parts.now }
     ensures { OutcomeBy h lines.now res.old res.new scratch.old scratch.new result }
 {
-    let k = gene_tree::verdict(h.nodes, h.genes, lines);
-    if k != 0 {
-        return Answer::Refused(k);
-    }
-    Answer::Report(family::write(h, lines, parts, res, scratch))
+    gene_tree::verdict(h.nodes, h.genes, lines)?;
+    Ok(family::write(h, lines, parts, res, scratch))
 }
 
 // The components of a network that passes 6 to 10, and 11.
@@ -45,11 +42,9 @@ fn score_components(h: Header, lines: &Lines, res: &mut [u8], scratch: &mut [u32
     requires { Numbered h lines.now (length res.old) (length scratch.old) × (verdict (network_refusals (nodes_in h.nodes lines.now)) ≡ 0) }
     ensures { OutcomeBy h lines.now res.old res.new scratch.old scratch.new result }
 {
-    let mut parts = [0u32; 512];
+    let mut parts = [0; 512];
     components::fill(h.nodes, lines, &mut parts);
-    if components::crowded(h.nodes, lines, &parts) {
-        return Answer::Refused(11);
-    }
+    components::verdict(h.nodes, lines, &parts)?;
     score_genes(h, lines, &parts, res, scratch)
 }
 
@@ -58,10 +53,7 @@ fn score_network(h: Header, lines: &Lines, res: &mut [u8], scratch: &mut [u32]) 
     requires { Numbered h lines.now (length res.old) (length scratch.old) }
     ensures { OutcomeBy h lines.now res.old res.new scratch.old scratch.new result }
 {
-    let k = network::verdict(h.nodes, lines);
-    if k != 0 {
-        return Answer::Refused(k);
-    }
+    network::verdict(h.nodes, lines)?;
     score_components(h, lines, res, scratch)
 }
 
@@ -73,15 +65,15 @@ fn score_lines(sheet: &[u8], h: Header, res: &mut [u8], scratch: &mut [u32]) -> 
     let n = h.nodes;
     let m = h.genes;
     if !sheet::is_whole(sheet, n, m) {
-        return Answer::Refused(5);
+        return Err(Refusal::BadLines);
     }
-    let mut lines = [0u32; layout::lines::CELLS];
+    let mut lines = [0; layout::lines::CELLS];
     sheet::cells(sheet, 1 + n + m, &mut lines);
     if !sheet::nodes_in_order(&lines, n) {
-        return Answer::Refused(5);
+        return Err(Refusal::BadLines);
     }
     if !sheet::genes_in_order(&lines, n, m) {
-        return Answer::Refused(5);
+        return Err(Refusal::BadLines);
     }
     score_network(h, &lines, res, scratch)
 }
@@ -91,14 +83,11 @@ pub fn score(sheet: &[u8], res: &mut [u8], scratch: &mut [u32]) -> Answer
     ensures { Promise sheet.now res.old res.new scratch.old scratch.new result }
 {
     if scratch.len() < LEAST_WORDS {
-        return Answer::Refused(1);
+        return Err(Refusal::ShortScratch);
     }
     if res.len() < LEAST_BYTES {
-        return Answer::Refused(2);
+        return Err(Refusal::ShortResult);
     }
-    let headed = sheet::read_header(sheet);
-    match headed {
-        Headed::Refused(k) => Answer::Refused(k),
-        Headed::Header(h) => score_lines(sheet, h, res, scratch),
-    }
+    let h = sheet::read_header(sheet)?;
+    score_lines(sheet, h, res, scratch)
 }

@@ -7,7 +7,6 @@
 
 ghost use Rattle.std.specs.Prelude.{◌<◌};
 
-use answer::Answer;
 use std::rt::Files;
 use std::{env, io};
 use test_files::Got;
@@ -68,13 +67,12 @@ fn show_words(rt: &impl Print, scratch: &[u32; 16129]) -> io::Result<()> {
 fn score_one(rt: &impl Print, sheet: &[u8]) -> io::Result<()> {
     let mut result = [0u8; 5952];
     let mut scratch = [UNTOUCHED; 16129];
-    let answer = score::score(sheet, &mut result, &mut scratch);
-    match answer {
-        Answer::Report(length) => {
+    match score::score(sheet, &mut result, &mut scratch) {
+        Ok(length) => {
             rt.write_all(&result[..length])?;
             show_words(rt, &scratch)
         }
-        Answer::Refused(k) => show(rt, k, b'\n'),
+        Err(refusal) => show(rt, refusal.number(), b'\n'),
     }
 }
 

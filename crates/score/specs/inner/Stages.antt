@@ -1,6 +1,6 @@
 -- What the stages of the call hand on to each other.
 -- Assumes nothing.
-use Rattle.std.specs.Prelude.{◌≡◌, List, ℕ, ◌≤◌, length}
+use Rattle.std.specs.Prelude.{◌≡◌, List, ℕ, ◌≤◌, length, Result, Ok}
 use Rattle.finite.specs.Refusals.{verdict}
 use Rattle.layout.specs.Lines.{nodes_in}
 use Rattle.layout.specs.declared.Header.{Header}
@@ -8,17 +8,16 @@ use Rattle.network.specs.Refusals.{network_refusals}
 use Rattle.components.specs.Refusals.{component_refusals}
 use Rattle.components.specs.inner.Filling.{Dated}
 use Rattle.sheet.specs.Sheets.{header_of}
-use Rattle.sheet.specs.declared.Headed.TheVariants.{Header as accepted}
 use Rattle.family.specs.Buffers.{least_words, least_bytes}
 use Rattle.family.specs.inner.Stages.{contents_by, Sized}
-use Rattle.answer.specs.declared.Answer.{Answer}
+use Rattle.refusals.specs.declared.Refusal.{Refusal}
 use Rattle.score.specs.Contents.{contents_of}
 use Rattle.score.specs.Refusals.{curator_refusals, refusal}
 use Rattle.answer.specs.Outcome.{Outcome}
 
 -- a sheet whose header was accepted, with ample buffers
 pub record Lined (s : List ℕ) (h : Header) (bytes words : ℕ) : Type 0 where
-  pub header : accepted h ≡ header_of s
+  pub header : Ok h ≡ header_of s
   pub room : least_bytes ≤ bytes
   pub space : least_words ≤ words
 
@@ -33,8 +32,8 @@ pub record Curated (h : Header) (lines : List ℕ) : Type 0 where
   pub component : verdict (component_refusals (nodes_in h.nodes lines)) ≡ 0
 
 -- the outcome of the curators' refusals for these lines, and of all refusals for a sheet
-abbrev pub OutcomeBy : Header → (lines d e u t : List ℕ) → Answer → Type 0
+abbrev pub OutcomeBy : Header → (lines d e u t : List ℕ) → Result ℕ Refusal → Type 0
 OutcomeBy h lines d e u t r = Outcome (verdict (curator_refusals (contents_by h lines))) (contents_by h lines) d e u t r
 
-abbrev pub OutcomeOf : (s d e u t : List ℕ) → Answer → Type 0
+abbrev pub OutcomeOf : (s d e u t : List ℕ) → Result ℕ Refusal → Type 0
 OutcomeOf s d e u t r = Outcome (refusal s (length d) (length u)) (contents_of s) d e u t r
