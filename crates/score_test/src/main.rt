@@ -5,14 +5,12 @@
 // components of 8, n = m = 127, and damaged sheets for every refusal.
 #![tactic(auto)]
 
-ghost use Rattle.std.specs.Prelude.{◌<◌};
-
+use std::alloc::Global;
 use std::rt::Files;
 use std::{env, io};
-use test_files::Got;
 
 // The room for a sheet: a byte more than the longest has.
-const SHEET: usize = 7906;
+const SHEET: usize = 31 * (1 + 127 + 127) + 1;
 
 // How many words of the scratch are written: the 35 of sheet K's table, and five that it leaves as they were.
 const SHOWN: usize = 40;
@@ -22,78 +20,49 @@ const UNTOUCHED: u32 = 4294967294;
 
 const NO_HISTORY: u32 = 4294967295;
 
-// A number in six columns, then a byte.
-fn show(rt: &impl Print, number: u32, end: u8) -> io::Result<()>
-    requires { number < 1000000 }
-{
-    let mut field = [0, 0, 0, 0, 0, 0, end];
-    columns::write_field(&mut field, number);
-    rt.write_all(&field)
+// A word in six columns, and what follows it: '-' and '.' stand for the words that are no costs.
+fn show_word(rt: &impl Print, word: u32, end: char) -> io::Result<()> {
+    match word {
+        NO_HISTORY => print!(rt; "     -{end}"),
+        UNTOUCHED => print!(rt; "     .{end}"),
+        0..1000000 => print!(rt; "{word:>6}{end}"),
+        _ => print!(rt; "     ?{end}"),
+    }
 }
 
-// What stands for a word that is no cost.
-fn mark(word: u32) -> u8 {
-    if word == NO_HISTORY {
-        return b'-';
-    }
-    if word == UNTOUCHED {
-        return b'.';
-    }
-    b'?'
-}
-
-fn show_word(rt: &impl Print, word: u32, end: u8) -> io::Result<()> {
-    if word < 1000000 {
-        return show(rt, word, end);
-    }
-    rt.write_all(&[b' ', b' ', b' ', b' ', b' ', mark(word), end])
-}
-
-// What follows word i: ten stand in a line.
-fn end(i: usize) -> u8 {
-    if i % 10 == 9 {
-        return b'\n';
-    }
-    b' '
-}
-
-fn show_words(rt: &impl Print, scratch: &[u32; 16129]) -> io::Result<()> {
-    for i in 0..SHOWN {
-        show_word(rt, scratch[i], end(i))?;
+// The first words, ten in a line.
+fn show_words(rt: &impl Print, scratch: &[u32]) -> io::Result<()> {
+    for (i, word) in scratch.iter().take(SHOWN).enumerate() {
+        show_word(rt, *word, if i % 10 == 9 { '\n' } else { ' ' })?;
     }
     Ok(())
 }
 
 fn score_one(rt: &impl Print, sheet: &[u8]) -> io::Result<()> {
-    let mut result = [0u8; 5952];
-    let mut scratch = [UNTOUCHED; 16129];
+    let mut result = [0; score::LEAST_BYTES];
+    let mut scratch = [UNTOUCHED; score::LEAST_WORDS];
     match score::score(sheet, &mut result, &mut scratch) {
         Ok(length) => {
             rt.write_all(&result[..length])?;
             show_words(rt, &scratch)
         }
-        Err(refusal) => show(rt, refusal.number(), b'\n'),
+        Err(refusal) => println!(rt; "{:>6}", refusal.number()),
     }
 }
 
-// Writes the name, and what is told of it.
-fn tell(rt: &impl Print, name: &str, told: &str) -> io::Result<()> {
-    println!(rt; "{name}{told}")
-}
-
 // Scores the sheet of a name.
-fn score_named<R: Files + Print>(rt: &R, name: &str) -> io::Result<()> {
-    let mut sheet = [0u8; SHEET];
-    let Got::Bytes(bytes) = test_files::read(rt, name, b".sheet", &mut sheet)? else {
-        return tell(rt, name, " is missing");
+fn score_named<R: Files + Print>(rt: &R, alloc: Global, name: &str) -> io::Result<()> {
+    let mut sheet = [0; SHEET];
+    let Some(bytes) = test_files::read(rt, alloc, name, ".sheet", &mut sheet)? else {
+        return println!(rt; "{name} is missing");
     };
-    tell(rt, name, "")?;
+    println!(rt; "{name}")?;
     score_one(rt, &sheet[..bytes])
 }
 
 fn main(rt: HostRuntime) -> io::Result<()> {
     for name in env::args(&rt)?.skip(1) {
-        score_named(&rt, name.as_str())?;
+        score_named(&rt, rt.alloc(), name.as_str())?;
     }
     Ok(())
 }
