@@ -1,12 +1,7 @@
 -- What is found at a place is a tree whose bytes stand there (`sound`), and each such tree that no digit follows is found (`complete`), by induction on
 -- the tree. So a text has one reading: what is found at its start.
 -- Assumes nothing.
-use Prim.Native.Nat.{ℕ, zero, suc, ◌+◌, ◌-◌, ◌*◌, ◌≤◌}
-use mathlib.Core.Path.{◌≡◌, refl, sym, ap, ◌∙◌}
-use mathlib.Core.Bool.{false}
-use mathlib.Core.List.{List, [], ◌∷◌, ◌++◌, append_assoc}
-use native.Mathlib.Omega.{arith}
-use lib.ListN.{length, get_or, drop, length-append}
+use Rattle.std.proofs.Common.{ℕ, zero, suc, ◌+◌, ◌-◌, ◌*◌, ◌≤◌, ◌≡◌, false, List, [], ◌∷◌, ◌++◌, length, get_or, drop, refl, sym, ap, ◌∙◌, append_assoc, arith, length-append}
 use Rattle.finite.specs.Tests.{same}
 use Rattle.finite.proofs.Tests.{is_same, not_same}
 use Rattle.newick.specs.Trees.{Tree, leaf, pair, spelled, text_of, Proper, HasText, genes}
@@ -38,8 +33,8 @@ tree_sound text (suc k) at t next e = by_tree text k at t next e
           (l.text_is ∙ ap (λ (x : List ℕ). spelled p.left ++ x) (opens text p.comma 44 p.comma_is (omega arith)))
           (r.text_is ∙ ap (λ (x : List ℕ). spelled p.right ++ x) (opens text p.close 41 p.close_is (omega arith)));
     }))
-    (λ s q ts. let g = leaf_sound text at s next q in
-    rw ts (record { proper = (g.some, g.small); text_is = g.text_is }))
+    (λ n q ts f. let g = leaf_sound text at n q in
+    rw (ts, f) (record { proper = (g.some, g.small); text_is = g.text_is }))
 
 pub sound : (text : List ℕ) (at : ℕ) (t : Tree) (next : ℕ) → tree_at text at ≡ found t next → Stands text at t next
 unfolding tree_at

@@ -1,24 +1,18 @@
 -- Reading a tree: what was found when a tree was found, and that each gene of it has a byte of its own. So brackets are never deeper than the text left
 -- is long, and the bound on the depth does not matter (`tree_eq`).
 -- Assumes nothing.
-use Prim.Native.Nat.{ℕ, zero, suc, ◌+◌, ◌-◌, ◌*◌, ◌≤◌, ◌<◌}
-use mathlib.Core.Path.{◌≡◌, refl, sym, ap, ◌∙◌}
-use mathlib.Core.Bool.{cond}
-use mathlib.Core.List.{List}
-use native.Mathlib.Omega.{arith}
-use lib.ListN.{length}
+use Rattle.std.proofs.Common.{ℕ, zero, suc, ◌+◌, ◌-◌, ◌*◌, ◌≤◌, ◌<◌, ◌≡◌, cond, List, length, Option, Some, None, refl, sym, ap, ◌∙◌, arith}
 use Rattle.finite.specs.Tests.{same}
 use Rattle.finite.proofs.Cases.{by_bool, by_less}
 use Rattle.finite.proofs.Tests.{same_is}
 use Rattle.newick.specs.Trees.{Tree, leaf, pair, genes}
 use Rattle.newick.specs.Reading.{byte_at, digit_from, more_at, leaf_at, Found, nothing, found, leaf_of, closed, paired, tree_in, tree_at, pair_at}
-use Rattle.newick.specs.declared.Leaf.{Leaf}
-use Rattle.newick.specs.declared.Leaf.TheVariants.{Number, Missing}
+use Rattle.newick.specs.declared.Numeral.{Numeral}
 use Rattle.newick.proofs.Places.{inside, digit_low}
 
 -- two that differ
 pub none_found : {A : Type 0} {t : Tree} {n : ℕ} → nothing ≡ found t n → A
-none_found e = let z : ◌≡◌ {A = ℕ} 0 1 = cc in absurd (omega arith)
+none_found e = cc
 
 -- the parts of a pair that was found
 pub record Parts (text : List ℕ) (read : ℕ → Found) (f : Found) (t : Tree) (next : ℕ) : Type 0 where
@@ -51,34 +45,37 @@ module _ (text : List ℕ) (read : ℕ → Found) (t : Tree) (next : ℕ) where
       (λ y. none_found (rw y at e))
 
 -- a tree that was found is a pair after its bracket or a leaf
-leaf_parts : {A : Type 0} (f : Leaf) (t : Tree) (next : ℕ) → leaf_of f ≡ found t next → ((s : ℕ) → f ≡ Number s next → t ≡ leaf s → A) → A
+leaf_parts : {A : Type 0} (f : Option Numeral) (t : Tree) (next : ℕ) → leaf_of f ≡ found t next
+    → ((n : Numeral) → f ≡ Some n → t ≡ leaf n.species → next ≡ n.next → A) → A
 unfolding leaf_of
-leaf_parts (Number s n) t next e k = let q : Number s n ≡ Number s next = cc in k s q (cc)
-leaf_parts Missing t next e k = none_found e
+leaf_parts None t next e k = none_found e
+leaf_parts (Some n) t next e k = k n refl (cc) (cc)
 
 pub by_tree : {A : Type 0} (text : List ℕ) (k at : ℕ) (t : Tree) (next : ℕ) → tree_in text (suc k) at ≡ found t next
     → (byte_at text at ≡ 40 → Parts text (λ p. tree_in text k p) (tree_in text k (suc at)) t next → A)
-    → ((s : ℕ) → leaf_at text at ≡ Number s next → t ≡ leaf s → A) → A
+    → ((n : Numeral) → leaf_at text at ≡ Some n → t ≡ leaf n.species → next ≡ n.next → A) → A
 unfolding tree_in
 by_tree text k at t next e f g = by_bool (same (byte_at text at) 40)
     (λ y. f (same_is (byte_at text at) 40 y) (paired_parts text (λ p. tree_in text k p) t next (tree_in text k (suc at)) (rw y at e)))
     (λ y. leaf_parts (leaf_at text at) t next (rw y at e) g)
 
 -- a number leaves room
-more_room : (text : List ℕ) (k n at m next : ℕ) → at ≤ length text → more_at text k n at ≡ Number m next → (at ≤ next) × (next ≤ length text)
+more_room : (text : List ℕ) (k n at : ℕ) → at ≤ length text → (at ≤ (more_at text k n at).next) × ((more_at text k n at).next ≤ length text)
 unfolding more_at
-more_room text zero n at m next l e = let q : at ≡ next = cc in (omega arith, omega arith)
-more_room text (suc k) n at m next l e = by_bool (digit_from 48 (byte_at text at))
+more_room text zero n at l = (omega arith, l)
+more_room text (suc k) n at l = by_bool (digit_from 48 (byte_at text at))
     (λ y. let i : at < length text = inside text at (omega (arith, digit_low 48 (byte_at text at) y)) in
-    let r = more_room text k (n * 10 + (byte_at text at - 48)) (suc at) m next (omega arith) (rw y at e) in (omega (arith, r.0), r.1))
-    (λ y. let z : Number n at ≡ Number m next = rw y at e in let q : at ≡ next = cc in (omega arith, omega arith))
+    let r = more_room text k (n * 10 + (byte_at text at - 48)) (suc at) (omega arith) in rw y (omega (arith, r.0), r.1))
+    (λ y. rw y (omega arith, l))
 
-pub leaf_room : (text : List ℕ) (at m next : ℕ) → leaf_at text at ≡ Number m next → (at < next) × (next ≤ length text)
+pub leaf_room : (text : List ℕ) (at : ℕ) (n : Numeral) → leaf_at text at ≡ Some n → (at < n.next) × (n.next ≤ length text)
 unfolding leaf_at
-leaf_room text at m next e = by_bool (digit_from 49 (byte_at text at))
+leaf_room text at n e = by_bool (digit_from 49 (byte_at text at))
     (λ y. let i : at < length text = inside text at (omega (arith, digit_low 49 (byte_at text at) y)) in
-    let r = more_room text 5 (byte_at text at - 48) (suc at) m next (omega arith) (rw y at e) in (omega (arith, r.0), r.1))
-    (λ y. let w : Missing ≡ Number m next = rw y at e in let z : ◌≡◌ {A = ℕ} 0 1 = cc in absurd (omega arith))
+    let r = more_room text 5 (byte_at text at - 48) (suc at) (omega arith) in
+    let q : more_at text 5 (byte_at text at - 48) (suc at) ≡ n = let z = rw y at e in cc in
+    rw (← q) (omega (arith, r.0), r.1))
+    (λ y. let z = rw y at e in cc)
 
 -- each gene of a tree has a byte of its own
 pub tree_room : (text : List ℕ) (k at : ℕ) (t : Tree) (next : ℕ) → tree_in text k at ≡ found t next → (at + genes t ≤ next) × (next ≤ length text)
@@ -90,7 +87,7 @@ tree_room text (suc k) at t next e = by_tree text k at t next e
     let i : p.close < length text = inside text p.close (rw p.close_is (omega arith)) in
     let g : genes t ≡ suc (genes p.left + genes p.right) = ap genes p.tree_is in
     (omega (arith, p.next_is, l.0, r.0), omega (arith, p.next_is)))
-    (λ s q ts. let r = leaf_room text at s next q in let g : genes t ≡ 1 = ap genes ts in (omega (arith, r.0), r.1))
+    (λ n q ts f. let r = leaf_room text at n q in let g : genes t ≡ 1 = ap genes ts in (omega (arith, r.0), omega (arith, r.1)))
 
 -- a bound on the depth that is above what is left of the text does not matter
 paired_same : (text : List ℕ) (read read' : ℕ → Found) (f : Found) → ((l : Tree) (n : ℕ) → f ≡ found l n → read (suc n) ≡ read' (suc n))

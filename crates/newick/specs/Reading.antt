@@ -1,12 +1,11 @@
 -- What reading finds at a place of a text, by computation. The byte past the text's end counts as 0, which no tree has.
 -- Assumes nothing.
-use Rattle.std.specs.Prelude.{ℕ, zero, suc, ◌+◌, ◌-◌, ◌*◌, Bool, cond, ◌&&◌, List, length, get_or}
+use Rattle.std.specs.Prelude.{ℕ, zero, suc, ◌+◌, ◌-◌, ◌*◌, Bool, cond, ◌&&◌, List, length, get_or, Option, Some, None, Result, Ok, Err}
 use Rattle.finite.specs.Tests.{same, under}
 use Rattle.newick.specs.Trees.{Tree, leaf, pair, genes}
-use Rattle.newick.specs.declared.Leaf.{Leaf}
-use Rattle.newick.specs.declared.Leaf.TheVariants.{Number, Missing}
-use Rattle.newick.specs.declared.Answer.{Answer}
-use Rattle.newick.specs.declared.Answer.TheVariants.{Genes, Outside, Long, Many}
+use Rattle.newick.specs.declared.Numeral.{Numeral}
+use Rattle.newick.specs.declared.Unreadable.{Unreadable}
+use Rattle.newick.specs.declared.Unreadable.TheVariants.{Outside, Long, Many}
 
 abbrev pub byte_at : List ℕ → ℕ → ℕ
 byte_at text at = get_or text at 0
@@ -15,25 +14,28 @@ byte_at text at = get_or text at 0
 unfoldable pub digit_from : ℕ → ℕ → Bool
 digit_from from b = under b 58 && under from (suc b)
 
+abbrev pub number : (species next : ℕ) → Numeral
+number s next = record { species = s; next = next }
+
 -- a number whose first digits make n, with up to k more from a place on
-unfoldable pub more_at : List ℕ → ℕ → ℕ → ℕ → Leaf
-more_at text zero n at = Number n at
+unfoldable pub more_at : List ℕ → ℕ → ℕ → ℕ → Numeral
+more_at text zero n at = number n at
 more_at text (suc k) n at =
     let r = more_at text k (n * 10 + (byte_at text at - 48)) (suc at) in
-    cond (digit_from 48 (byte_at text at)) r (Number n at)
+    cond (digit_from 48 (byte_at text at)) r (number n at)
 
 -- a number of one to six digits, the first not 0
-unfoldable pub leaf_at : List ℕ → ℕ → Leaf
-leaf_at text at = cond (digit_from 49 (byte_at text at)) (more_at text 5 (byte_at text at - 48) (suc at)) Missing
+unfoldable pub leaf_at : List ℕ → ℕ → Option Numeral
+leaf_at text at = cond (digit_from 49 (byte_at text at)) (Some (more_at text 5 (byte_at text at - 48) (suc at))) None
 
 -- a tree with the place after it, or none
 pub data Found : Type 0 where
   nothing : Found
   found : Tree → ℕ → Found
 
-unfoldable pub leaf_of : Leaf → Found
-leaf_of (Number s next) = found (leaf s) next
-leaf_of Missing = nothing
+unfoldable pub leaf_of : Option Numeral → Found
+leaf_of None = nothing
+leaf_of (Some n) = found (leaf n.species) n.next
 
 -- the bracket that closes the pair of l and what was found after the comma
 unfoldable pub closed : List ℕ → Tree → Found → Found
@@ -60,10 +62,10 @@ unfoldable pub pair_at : List ℕ → ℕ → Found
 pair_at text at = paired text (λ p. tree_at text p) (tree_at text at)
 
 -- the answer to a text that begins with what was found
-unfoldable pub answer_to : List ℕ → Found → Answer
-answer_to text nothing = Outside
-answer_to text (found t end) = cond (same (byte_at text end) 59 && same (suc end) (length text)) (cond (under 127 (genes t)) Many (Genes (genes t))) Outside
+unfoldable pub answer_to : List ℕ → Found → Result ℕ Unreadable
+answer_to text nothing = Err Outside
+answer_to text (found t end) = cond (same (byte_at text end) 59 && same (suc end) (length text)) (cond (under 127 (genes t)) (Err Many) (Ok (genes t))) (Err Outside)
 
 -- the answer to a text
-unfoldable pub answer_of : List ℕ → Answer
-answer_of text = cond (under 574 (length text)) Long (answer_to text (tree_at text 0))
+unfoldable pub answer_of : List ℕ → Result ℕ Unreadable
+answer_of text = cond (under 574 (length text)) (Err Long) (answer_to text (tree_at text 0))
