@@ -1,7 +1,7 @@
 -- What is found at the start of a text, and a semicolon that is its last byte, decide which of the four answers is right (`decided`), and so refusals 14
 -- and 15 (`text_tell`). Each return of the reader of a whole text is one law over plain values.
 -- Assumes nothing.
-use Rattle.std.proofs.Common.{ℕ, suc, ◌+◌, ◌≤◌, ◌<◌, ◌≡◌, ◌↔◌, true, false, cond, List, [], ◌∷◌, ◌++◌, length, drop, Option, Some, None, Result, Ok, Err, refl, sym, ap, ◌∙◌, arith}
+use Rattle.std.proofs.Common.{ℕ, suc, ◌+◌, ◌≤◌, ◌<◌, ◌≡◌, ◌↔◌, true, false, cond, List, [], ◌∷◌, ◌++◌, length, drop, Option, Some, None, Result, Ok, Err, refl, ap, ◌∙◌, arith}
 use Rattle.std.proofs.Math.Seq.{drop-length}
 use Rattle.finite.specs.Tests.{same, under}
 use Rattle.finite.specs.Refusals.{verdict, AllTell, no_more, one_more}
@@ -9,7 +9,7 @@ use Rattle.finite.proofs.Cases.{by_bool}
 use Rattle.finite.proofs.Tests.{same_is, is_same, not_same, same_not, is_under, not_under, under_is, under_not}
 use Rattle.finite.proofs.Refusals.{tell}
 use Rattle.newick.specs.Trees.{Tree, spelled, text_of, HasText, OfGrammar, genes}
-use Rattle.newick.specs.Reading.{byte_at, Found, nothing, found, tree_at, answer_to, answer_of}
+use Rattle.newick.specs.Reading.{byte_at, Found, found, tree_at, answer_to, answer_of}
 use Rattle.newick.specs.Answers.{Taken, Refusal14, Refusal15, TooMany, refusal_of, text_refusals, Says, Promise}
 use Rattle.newick.specs.Answers.Refusal15.{longer, many}
 use Rattle.newick.specs.inner.Steps.{passed, Kept, Outcome}
@@ -17,14 +17,13 @@ use Rattle.newick.specs.declared.Place.{Place}
 use Rattle.newick.specs.declared.Unreadable.{Unreadable}
 use Rattle.newick.specs.declared.Unreadable.TheVariants.{Outside, Long, Many}
 use Rattle.newick.proofs.Places.{front, past, opens}
-use Rattle.newick.proofs.Trees.{none_found}
 use Rattle.newick.proofs.Turns.{Told, told, told_none, told_kept, Next, did_pass, not_passed}
 use Rattle.newick.proofs.Writing.{kept_same, nodes_kept, genes_in_lem}
-use Rattle.newick.proofs.Readings.{sound, reads, one_tree, length_text}
+use Rattle.newick.proofs.Readings.{sound, reads, one_found, one_tree, length_text}
 
 -- where the text of a tree ends
 module _ (text : List ℕ) (t : Tree) (w : HasText text t) where
-  pub found_text : tree_at text 0 ≡ found t (length (spelled t))
+  pub found_text : tree_at text 0 ≡ Some (found t (length (spelled t)))
   found_text = reads text t w.proper w.text_is
 
   length_is : suc (length (spelled t)) ≡ length text
@@ -37,14 +36,14 @@ module _ (text : List ℕ) (t : Tree) (w : HasText text t) where
       front text (length (spelled t)) (59 ∷ []) (ap (λ (i : ℕ). drop i text) z ∙ past text 0 (spelled t) (59 ∷ []) w.text_is)
 
 -- a tree found at the start of a text that ends after a semicolon behind it has that text
-text_of_lem : (text : List ℕ) (t : Tree) (end : ℕ) → tree_at text 0 ≡ found t end → byte_at text end ≡ 59 → suc end ≡ length text → HasText text t
+text_of_lem : (text : List ℕ) (f : Found) → tree_at text 0 ≡ Some f → byte_at text f.next ≡ 59 → suc f.next ≡ length text → HasText text f.tree
 unfolding text_of
-text_of_lem text t end e b z =
-    let g = sound text 0 t end e in
+text_of_lem text f e b z =
+    let g = sound text 0 f e in
     record {
       proper = g.proper;
-      text_is = g.text_is ∙ ap (λ (x : List ℕ). spelled t ++ x)
-          (opens text end 59 b (omega arith) ∙ ap (λ (x : List ℕ). 59 ∷ x) (ap (λ (i : ℕ). drop i text) z ∙ drop-length text));
+      text_is = g.text_is ∙ ap (λ (x : List ℕ). spelled f.tree ++ x)
+          (opens text f.next 59 b (omega arith) ∙ ap (λ (x : List ℕ). 59 ∷ x) (ap (λ (i : ℕ). drop i text) z ∙ drop-length text));
     }
 
 -- what an answer says of the text alone
@@ -59,19 +58,19 @@ module _ (text : List ℕ) (short : length text ≤ 574) where
   unfolding Means OfGrammar
   outside f = record { short = short; outside = λ g. f g.0 g.1 }
 
-  decided_by : (f : Found) → tree_at text 0 ≡ f → Means text (answer_to text f)
+  decided_by : (r : Option Found) → tree_at text 0 ≡ r → Means text (answer_to text r)
   unfolding Means answer_to
-  decided_by nothing e = outside (λ t w. none_found (sym e ∙ found_text text t w))
-  decided_by (found t end) e = by_bool (same (byte_at text end) 59)
-      (λ b. by_bool (same (suc end) (length text))
-      (λ z. let w = text_of_lem text t end e (same_is _ _ b) (same_is _ _ z) in by_bool (under 127 (genes t))
-      (λ u. rw (b, z, u) (record { short = short; tree = t; has_text = w; many = under_is _ _ u }))
-      (λ u. rw (b, z, u) (record { short = short; tree = t; has_text = w; count = refl; few = under_not _ _ u })))
-      (λ z. rw (b, z) (outside (λ t' w. same_not _ _ z (ap suc (at_end t' w) ∙ length_is text t' w)))))
-      (λ b. rw b (outside (λ t' w. same_not _ _ b (ap (λ (i : ℕ). byte_at text i) (at_end t' w) ∙ last_byte text t' w))))
+  decided_by None e = outside (λ t w. let q = found_text text t w in cc)
+  decided_by (Some f) e = by_bool (same (byte_at text f.next) 59)
+      (λ b. by_bool (same (suc f.next) (length text))
+      (λ z. let w = text_of_lem text f e (same_is _ _ b) (same_is _ _ z) in by_bool (under 127 (genes f.tree))
+      (λ u. rw (b, z, u) (record { short = short; tree = f.tree; has_text = w; many = under_is _ _ u }))
+      (λ u. rw (b, z, u) (record { short = short; tree = f.tree; has_text = w; count = refl; few = under_not _ _ u })))
+      (λ z. rw (b, z) (outside (λ t w. same_not _ _ z (ap suc (at_end t w) ∙ length_is text t w)))))
+      (λ b. rw b (outside (λ t w. same_not _ _ b (ap (λ (i : ℕ). byte_at text i) (at_end t w) ∙ last_byte text t w))))
     where
-      at_end : (t' : Tree) → HasText text t' → end ≡ length (spelled t')
-      at_end t' w = let q = found_text text t' w in cc
+      at_end : (t : Tree) → HasText text t → f.next ≡ length (spelled t)
+      at_end t w = let q : f ≡ found t (length (spelled t)) = let z = found_text text t w in cc in ap (λ (x : Found). x.next) q
 
 pub decided : (text : List ℕ) → Means text (answer_of text)
 unfolding Means answer_of
@@ -177,5 +176,5 @@ module _ (text : List ℕ) (n : ℕ) (l k : List ℕ) (short : length text ≤ 5
         answer_genes ln long h =
             let u : under 127 (genes x.tree) ≡ false = not_under (omega (arith, count)) in
             promised text n l k (Ok end.genes) kept (rw (not_under short, x.found_is, next.test, z, u, count)) (λ m.
-            let q : m.tree ≡ x.tree = let p = x.found_is in let p' = found_text text m.tree m.has_text in cc in
+            let q : m.tree ≡ x.tree = one_found (found_text text m.tree m.has_text) x.found_is in
             (m, rw q (genes_in_lem x.tree l k n end.genes ln count h long x.lines_are)))

@@ -5,7 +5,7 @@ use Rattle.finite.specs.Tests.{same}
 use Rattle.finite.proofs.Cases.{by_bool}
 use Rattle.finite.proofs.Tests.{same_is}
 use Rattle.newick.specs.Trees.{Tree, pair, genes, lines_from}
-use Rattle.newick.specs.Reading.{byte_at, leaf_at, Found, nothing, found, leaf_of, closed, paired, tree_at, pair_at}
+use Rattle.newick.specs.Reading.{byte_at, leaf_at, Found, found, leaf_of, closed, paired, tree_at, pair_at}
 use Rattle.newick.specs.inner.Steps.{place, passed, entered, entered_all, Kept, Outcome}
 use Rattle.newick.specs.declared.Numeral.{Numeral}
 use Rattle.newick.specs.declared.Place.{Place}
@@ -14,29 +14,29 @@ use Rattle.newick.proofs.Trees.{tree_eq, room}
 use Rattle.newick.proofs.Writing.{kept_same, kept_then, kept_all, entered_two, some_gene, length_lines}
 
 -- what an outcome says of an answer that is known
-pub record Told (f : Found) (met up n : ℕ) (l : List ℕ) (p : Place) (k : List ℕ) : Type 0 where
+pub record Told (f : Option Found) (met up n : ℕ) (l : List ℕ) (p : Place) (k : List ℕ) : Type 0 where
   pub tree : Tree
-  pub found_is : f ≡ found tree p.at
+  pub found_is : f ≡ Some (found tree p.at)
   pub all_is : p.genes ≡ met + genes tree
   pub lines_are : k ≡ entered_all l n (suc met) (lines_from (suc met) up tree)
 
 module _ (met up n : ℕ) (l k : List ℕ) where
-  pub told : (f : Found) (p : Place) → Outcome f met up n l (Some p) k → Told f met up n l p k
+  pub told : (f : Option Found) (p : Place) → Outcome f met up n l (Some p) k → Told f met up n l p k
   unfolding Outcome
-  told nothing p o = let q = o.0 in cc
-  told (found t i) p o =
-      let q : p ≡ place i (met + genes t) = let z = o.0 in cc in
-      rw q (record { tree = t; found_is = refl; all_is = refl; lines_are = o.1 })
+  told None p o = let q = o.0 in cc
+  told (Some f) p o =
+      let q : p ≡ place f.next (met + genes f.tree) = let z = o.0 in cc in
+      rw q (record { tree = f.tree; found_is = refl; all_is = refl; lines_are = o.1 })
 
-  pub told_none : (f : Found) → Outcome f met up n l None k → f ≡ nothing
+  pub told_none : (f : Option Found) → Outcome f met up n l None k → f ≡ None
   unfolding Outcome
-  told_none nothing o = refl
-  told_none (found t i) o = let q = o.0 in cc
+  told_none None o = refl
+  told_none (Some f) o = let q = o.0 in cc
 
-  pub told_kept : (f : Found) (r : Option Place) → Outcome f met up n l r k → Kept n l k
+  pub told_kept : (f : Option Found) (r : Option Place) → Outcome f met up n l r k → Kept n l k
   unfolding Outcome
-  told_kept nothing r o = o.1
-  told_kept (found t i) r o = rw o.1 (kept_all (lines_from (suc met) up t) l n (suc met) (omega arith))
+  told_kept None r o = o.1
+  told_kept (Some f) r o = rw o.1 (kept_all (lines_from (suc met) up f.tree) l n (suc met) (omega arith))
 
 -- a byte that was passed, and one that was not
 pub record Next (text : List ℕ) (byte : ℕ) (p q : Place) : Type 0 where
@@ -67,7 +67,7 @@ pub record Ended (text : List ℕ) (at met : ℕ) (p : Place) : Type 0 where
 pub ended : (text : List ℕ) (at met up n : ℕ) (l : List ℕ) (p : Place) (k : List ℕ) → Outcome (tree_at text at) met up n l (Some p) k → Ended text at met p
 ended text at met up n l p k o =
     let q = told met up n l k (tree_at text at) p o in
-    let g = room text at q.tree p.at q.found_is in
+    let g = room text at (found q.tree p.at) q.found_is in
     record { more = omega (arith, q.all_is, some_gene q.tree); apart = omega (arith, q.all_is, g.0); within = g.1 }
 
 -- the tree reader
@@ -125,7 +125,7 @@ module _ (text : List ℕ) (at met up n : ℕ) (l l₁ l₂ : List ℕ) (own p s
       unfolding pair_at paired closed Outcome
       pair_no_right o₂ r e =
           let next = did_pass text 44 left comma c in
-          let y : tree_at text (suc left.at) ≡ nothing = rw next.at_is at (told_none m₂ u₂ n l₂ l₃ (tree_at text comma.at) o₂) in
+          let y : tree_at text (suc left.at) ≡ None = rw next.at_is at (told_none m₂ u₂ n l₂ l₃ (tree_at text comma.at) o₂) in
           rw (x.found_is, next.test, y) (e, kept₃ None o₂)
 
 -- where it finds both its members: the place after its bracket, if that is there

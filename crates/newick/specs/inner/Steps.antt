@@ -4,7 +4,7 @@ use Rattle.std.specs.Prelude.{ℕ, suc, ◌+◌, ◌*◌, ◌≤◌, ◌≡◌, 
 use Rattle.finite.specs.Tests.{same, under}
 use Rattle.text_lines.specs.Lines.{field_count}
 use Rattle.newick.specs.Trees.{GeneLine, genes, lines_from}
-use Rattle.newick.specs.Reading.{byte_at, digit_from, Found, nothing, found}
+use Rattle.newick.specs.Reading.{byte_at, digit_from, Found}
 use Rattle.newick.specs.declared.Place.{Place}
 
 -- what the digit at a place counts for
@@ -33,6 +33,6 @@ pub record Kept (n : ℕ) (l k : List ℕ) : Type 0 where
   pub front : (i : ℕ) → i ≤ field_count * n + field_count → get_or k i 0 ≡ get_or l i 0
 
 -- what a reader does that has met so many genes and gives what it finds the parent up: l are the lines before, k after
-unfoldable pub Outcome : Found → (met up n : ℕ) → List ℕ → Option Place → List ℕ → Type 0
-Outcome nothing met up n l r k = (r ≡ None) × Kept n l k
-Outcome (found t next) met up n l r k = (r ≡ Some (place next (met + genes t))) × (k ≡ entered_all l n (suc met) (lines_from (suc met) up t))
+unfoldable pub Outcome : Option Found → (met up n : ℕ) → List ℕ → Option Place → List ℕ → Type 0
+Outcome None met up n l r k = (r ≡ None) × Kept n l k
+Outcome (Some f) met up n l r k = (r ≡ Some (place f.next (met + genes f.tree))) × (k ≡ entered_all l n (suc met) (lines_from (suc met) up f.tree))
