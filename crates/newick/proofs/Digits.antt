@@ -1,13 +1,13 @@
 -- The turns and the returns of the code that reads a species number, over plain values: `leaf_at` and `more_at` go by the digit that the code has found,
 -- and k digits make a number below 10 ^ k.
 -- Assumes nothing.
-use Rattle.std.proofs.Common.{ℕ, zero, suc, ◌+◌, ◌-◌, ◌*◌, ◌^◌, ◌≤◌, ◌<◌, ◌≡◌, ◌≢◌, true, false, List, length, Option, Some, None, refl, ◌⊎◌, ⊎_elim, add-one, arith}
+use Rattle.std.proofs.Common.{ℕ, zero, suc, ◌+◌, ◌-◌, ◌*◌, ◌^◌, ◌≤◌, ◌<◌, ◌≡◌, ◌≢◌, true, false, List, Option, Some, None, refl, ◌⊎◌, ⊎_elim, add-one, arith}
 use Rattle.std.proofs.Math.Nat.{pow-suc, pow-le-pow_right}
 use Rattle.finite.proofs.Cases.{by_bool}
 use Rattle.newick.specs.Reading.{byte_at, digit_from, number, more_at, leaf_at}
 use Rattle.newick.specs.inner.Steps.{digit_at}
 use Rattle.newick.specs.declared.Numeral.{Numeral}
-use Rattle.newick.proofs.Places.{inside, digit_low, digit_high, digit_yes, digit_less, digit_more}
+use Rattle.newick.proofs.Places.{digit_low, digit_high, digit_yes, digit_less, digit_more}
 
 pub ten_five : (k : ℕ) → k < 6 → 10 ^ k ≤ 100000
 ten_five k h = pow-le-pow_right {n = 10} (omega arith) {i = k} {j = 5} (omega arith)
@@ -27,16 +27,11 @@ pub record Digit (text : List ℕ) (at d : ℕ) : Type 0 where
   pub is_digit : digit_from 48 (byte_at text at) ≡ true
   pub low : 48 ≤ byte_at text at
   pub worth : d ≡ byte_at text at - 48
-  pub few : d ≤ 9
-  pub within : at < length text
 
 pub digit_found : (text : List ℕ) (at d : ℕ) → Some d ≡ digit_at text at → Digit text at d
 unfolding digit_at
 digit_found text at d e = by_bool (digit_from 48 (byte_at text at))
-    (λ y. let q : d ≡ byte_at text at - 48 = let z = rw y at e in cc in
-    let low = digit_low 48 (byte_at text at) y in
-    let high = digit_high 48 (byte_at text at) y in
-    record { is_digit = y; low = low; worth = q; few = omega arith; within = inside text at (omega arith) })
+    (λ y. let z = rw y at e in record { is_digit = y; low = digit_low 48 (byte_at text at) y; worth = (cc) })
     (λ y. let z = rw y at e in cc)
 
 pub no_digit : (text : List ℕ) (at : ℕ) → None ≡ digit_at text at → digit_from 48 (byte_at text at) ≡ false

@@ -114,7 +114,7 @@ numeral_is (suc k) s l u = by_less s 10
     record {
       first = g.first;
       others = g.others ++ (d ∷ []);
-      bytes_are = numeral_more k s h ∙ ap (λ (x : List ℕ). x ++ (d ∷ [])) g.bytes_are;
+      bytes_are = numeral_more k s h ∙ rw g.bytes_are;
       first_is = g.first_is;
       others_are = digits_last g.others d g.others_are (digit_yes 48 d (omega arith) (omega arith));
       value_is = value_last g.others (g.first - 48) d ∙ omega (arith, g.value_is);

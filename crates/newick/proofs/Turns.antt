@@ -1,9 +1,8 @@
 -- The returns of the tree reader and the pair reader, over plain values: what a member read and entered is put together to what the pair asks.
 -- Assumes nothing.
-use Rattle.std.proofs.Common.{ℕ, suc, ◌+◌, ◌≤◌, ◌<◌, ◌≡◌, true, false, List, [], ◌∷◌, length, Option, Some, None, refl, sym, ap, ◌∙◌, add-one, arith}
+use Rattle.std.proofs.Common.{ℕ, suc, ◌+◌, ◌≤◌, ◌≡◌, true, false, List, [], ◌∷◌, length, Option, Some, None, refl, sym, ap, ◌∙◌, add-one, arith}
 use Rattle.finite.specs.Tests.{same}
 use Rattle.finite.proofs.Cases.{by_bool}
-use Rattle.finite.proofs.Tests.{same_is}
 use Rattle.newick.specs.Trees.{Tree, pair, genes, lines_from}
 use Rattle.newick.specs.Reading.{byte_at, leaf_at, Found, found, leaf_of, closed, paired, tree_at, pair_at}
 use Rattle.newick.specs.inner.Steps.{place, passed, entered, entered_all, Kept, Outcome}
@@ -53,10 +52,6 @@ did_pass text byte p q e = by_bool (same (byte_at text p.at) byte)
 pub not_passed : (text : List ℕ) (byte : ℕ) (p : Place) → None ≡ passed text byte p → same (byte_at text p.at) byte ≡ false
 unfolding passed
 not_passed text byte p e = by_bool (same (byte_at text p.at) byte) (λ y. let z = rw y at e in cc) (λ y. y)
-
--- where the byte that was passed stands
-pub passed_inside : (text : List ℕ) (byte : ℕ) (p q : Place) → Some q ≡ passed text byte p → 1 ≤ byte → p.at < length text
-passed_inside text byte p q e l = inside text p.at (rw (same_is (byte_at text p.at) byte (did_pass text byte p q e).test) l)
 
 -- where a tree that was read ends
 pub record Ended (text : List ℕ) (at met : ℕ) (p : Place) : Type 0 where

@@ -1,8 +1,7 @@
 // Gene trees as Newick text: the tree reader and the pair reader call each other, and number the genes as they meet them.
 #![tactic(auto)]
 
-ghost use Rattle.std.specs.Prelude.{◌≡◌, ◌+◌, ◌≤◌, ◌<◌, length};
-ghost use Rattle.layout.specs.Lines.{cell_count};
+ghost use Rattle.std.specs.Prelude.{◌≡◌, ◌+◌, ◌≤◌, ◌<◌, length, IfSome, OnSome};
 ghost use Rattle.newick.specs.Reading.{leaf_at, tree_at, pair_at};
 ghost use Rattle.newick.specs.Answers.{Promise};
 ghost use Rattle.newick.specs.inner.Steps.{digit_at, passed, entered, Outcome};
@@ -32,7 +31,9 @@ struct Numeral {
 
 // What the digit at a place counts for.
 fn digit(text: &[u8], at: usize) -> Option<u32>
-    ensures { result ≡ digit_at text.now at }
+    ensures value { result ≡ digit_at text.now at }
+    ensures few { IfSome result (λ d. d ≤ 9) }
+    ensures within { OnSome result (at < length text.now) }
 {
     let b = *text.get(at)?;
     if !b.is_ascii_digit() {
@@ -43,7 +44,8 @@ fn digit(text: &[u8], at: usize) -> Option<u32>
 
 // The species number at a place.
 fn read_numeral(text: &[u8], at: usize) -> Option<Numeral>
-    ensures { result ≡ leaf_at text.now at }
+    ensures value { result ≡ leaf_at text.now at }
+    ensures within { OnSome result (at < length text.now) }
 {
     let mut species = digit(text, at)?;
     if species == 0 {
@@ -80,7 +82,9 @@ impl Reader<'_> {
     // The place after a byte, where that is the next one.
     fn pass(&self, from: Place, b: u8) -> Option<Place>
         requires { 1 ≤ b }
-        ensures { result ≡ passed self.now.text.now b from }
+        ensures value { result ≡ passed self.now.text.now b from }
+        ensures behind { IfSome result (λ p. (p.at ≡ from.at + 1) × (p.genes ≡ from.genes)) }
+        ensures within { OnSome result (from.at < length self.now.text.now) }
     {
         let next = *self.text.get(from.at)?;
         (next == b).then_some(Place {
@@ -104,7 +108,8 @@ impl Reader<'_> {
     // The tree at a place.
     #[cycle(pair_tree)]
     fn tree(&self, from: Place, up: usize, lines: &mut Lines) -> Option<Place>
-        requires { (from.genes ≤ from.at) × (up ≤ from.genes) }
+        requires apart { from.genes ≤ from.at }
+        requires met { up ≤ from.genes }
         ensures { Outcome (tree_at self.now.text.now from.at) from.genes up self.now.nodes lines.old result lines.new }
     {
         if let Some(inside) = self.pass(from, b'(') {
@@ -122,7 +127,8 @@ impl Reader<'_> {
     // The pair at a place after its bracket.
     #[cycle(pair_tree)]
     fn pair(&self, from: Place, up: usize, lines: &mut Lines) -> Option<Place>
-        requires { (from.genes < from.at) × (up ≤ from.genes) }
+        requires apart { from.genes < from.at }
+        requires met { up ≤ from.genes }
         ensures { Outcome (pair_at self.now.text.now from.at) from.genes up self.now.nodes lines.old result lines.new }
     {
         let own = from.genes + 1;
@@ -136,7 +142,7 @@ impl Reader<'_> {
 
 // Reads a whole text, and puts the parents and the species of its genes into the gene lines of a sheet of n nodes.
 pub fn read(text: &[u8], n: usize, lines: &mut Lines) -> Result<usize, Unreadable>
-    requires { (n ≤ 127) × (length lines.old ≡ cell_count) }
+    requires { n ≤ 127 }
     ensures { Promise text.now n lines.old lines.new result }
 {
     if text.len() > LONGEST {

@@ -33,4 +33,4 @@ returns-then-end-gt-GENES c =
 pub returns : goal.returns
 returns c =
     let d : c.tree.result ≡ Some c.in_ok-tree.tree = search rules in
-    answer_genes _ _ _ _ (omega arith) _ (rw d at c.tree.ensures) c.in_ok-end.end (search rules) c.if-end-text.false c.requires.0 c.requires.1 (omega arith)
+    answer_genes _ _ _ _ (omega arith) _ (rw d at c.tree.ensures) c.in_ok-end.end (search rules) c.if-end-text.false c.requires c.told-lines (omega arith)

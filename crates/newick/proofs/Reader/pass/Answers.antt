@@ -14,10 +14,10 @@ by_test : (text : List ℕ) (b : ℕ) (p : Place) (x : ℕ) → x ≡ byte_at te
 unfolding passed same
 by_test text b p x e = by_bool (x == b) (λ y. rw (← e, y, add-one)) (λ y. rw (← e, y))
 
-pub returns-in_err-next : goal.returns-in_err-next
+pub returns-in_err-next-clause-value : goal.returns-in_err-next-clause-value
 unfolding passed
-returns-in_err-next c = let d : 0 ≢ c.args.b = λ e. omega arith in
+returns-in_err-next-clause-value c = let d : 0 ≢ c.args.b = λ e. omega arith in
     c.from_residual.ensures ∙ rw (← c.in_err-next.ensures.lookup.4 (omega arith) 0, not_same d)
 
-pub returns : goal.returns
-returns c = c.then_some.ensures ∙ by_test _ c.args.b c.args.from _ (c.in_ok-next.ensures.lookup.4 (omega arith) 0)
+pub returns-clause-value : goal.returns-clause-value
+returns-clause-value c = c.then_some.ensures ∙ by_test _ c.args.b c.args.from _ (c.in_ok-next.ensures.lookup.4 (omega arith) 0)
