@@ -1,6 +1,6 @@
 -- The returns of the tree reader and the pair reader, over plain values: what a member read and entered is put together to what the pair asks.
 -- Assumes nothing.
-use Rattle.std.proofs.Common.{ℕ, suc, ◌+◌, ◌≤◌, ◌≡◌, true, false, List, [], ◌∷◌, length, Option, Some, None, refl, sym, ap, ◌∙◌, add-one, arith}
+use Rattle.std.proofs.Common.{ℕ, suc, ◌+◌, ◌≤◌, ◌≡◌, true, false, List, [], ◌∷◌, Option, Some, None, refl, sym, ap, ◌∙◌, add-one, arith}
 use Rattle.finite.specs.Tests.{same}
 use Rattle.finite.proofs.Cases.{by_bool}
 use Rattle.newick.specs.Trees.{Tree, pair, genes, lines_from}
@@ -57,13 +57,12 @@ not_passed text byte p e = by_bool (same (byte_at text p.at) byte) (λ y. let z 
 pub record Ended (text : List ℕ) (at met : ℕ) (p : Place) : Type 0 where
   pub more : met + 1 ≤ p.genes
   pub apart : at + p.genes ≤ p.at + met
-  pub within : p.at ≤ length text
 
 pub ended : (text : List ℕ) (at met up n : ℕ) (l : List ℕ) (p : Place) (k : List ℕ) → Outcome (tree_at text at) met up n l (Some p) k → Ended text at met p
 ended text at met up n l p k o =
     let q = told met up n l k (tree_at text at) p o in
     let g = room text at (found q.tree p.at) q.found_is in
-    record { more = omega (arith, q.all_is, some_gene q.tree); apart = omega (arith, q.all_is, g.0); within = g.1 }
+    record { more = omega (arith, q.all_is, some_gene q.tree); apart = omega (arith, q.all_is, g.0) }
 
 -- the tree reader
 module _ (text : List ℕ) (from : Place) (up n : ℕ) (l : List ℕ) (r : Option Place) where

@@ -14,6 +14,7 @@ byte_at text at = get_or text at 0
 unfoldable pub digit_from : ℕ → ℕ → Bool
 digit_from from b = under b 58 && under from (suc b)
 
+-- a species number, and the place after it
 abbrev pub number : (species next : ℕ) → Numeral
 number s next = record { species = s; next = next }
 
@@ -28,7 +29,7 @@ more_at text (suc k) n at =
 unfoldable pub leaf_at : List ℕ → ℕ → Option Numeral
 leaf_at text at = cond (digit_from 49 (byte_at text at)) (Some (more_at text 5 (byte_at text at - 48) (suc at))) None
 
--- a tree with the place after it
+-- a tree, and the place after it
 pub record Found : Type 0 where
   pub tree : Tree
   pub next : ℕ

@@ -79,7 +79,7 @@ struct Reader<'a> {
 }
 
 impl Reader<'_> {
-    // The place after a byte, where that is the next one.
+    // The place behind a byte, where that is the next one.
     fn pass(&self, from: Place, b: u8) -> Option<Place>
         requires { 1 ≤ b }
         ensures value { result ≡ passed self.now.text.now b from }
