@@ -1,14 +1,8 @@
 -- The genes of a subtree have the numbers from its first one on, without a gap, and no gene behind them has a parent among them. So a gene's parent is
 -- below it, a leaf has no child, and a pair has its two members for children: 12 never applies, and the gene lines describe the tree that they are of.
 -- Assumes nothing.
-use Prim.Native.Nat.{ℕ, suc, ◌+◌, ◌≤◌, ◌<◌}
-use mathlib.Core.Path.{◌≡◌, refl, sym, ap, ◌∙◌}
-use mathlib.Core.Logic.{◌≢◌, ◌⊎◌, inl, inr, ⊎_elim}
-use mathlib.Core.Bool.{false, cond}
-use mathlib.Core.List.{◌++◌}
-use native.Mathlib.Omega.{arith}
-use lib.ListN.{length, get_or, get_or-append}
-use lib.Seq.{get_or-append-add}
+use Rattle.std.proofs.Common.{ℕ, suc, ◌+◌, ◌≤◌, ◌<◌, ◌≡◌, ◌≢◌, ◌⊎◌, inl, inr, ⊎_elim, false, cond, ◌++◌, length, get_or, refl, sym, ap, ◌∙◌, arith, get_or-append-add}
+use Rattle.std.proofs.Math.ListN.{get_or-append}
 use Rattle.finite.specs.Tests.{same}
 use Rattle.finite.specs.Range.{children}
 use Rattle.finite.proofs.Cases.{by_bool, by_eq, by_less}

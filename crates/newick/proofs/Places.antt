@@ -1,15 +1,9 @@
 -- Bytes of a text by place: what is left of the text at a place begins with the byte there, and what follows it is left at the next place. Digits are
 -- the bytes from 48 to 57.
 -- Assumes nothing.
-use Prim.Native.Nat.{ℕ, suc, ◌+◌, ◌≤◌, ◌<◌}
-use mathlib.Core.Path.{◌≡◌, sym, ap, ◌∙◌}
-use mathlib.Core.Bool.{true, false}
-use mathlib.Core.List.{List, [], ◌∷◌, ◌++◌}
-use native.Mathlib.Omega.{arith}
-use native.Mathlib.Numerals.{add-one}
-use native.Mathlib.Nat.{add-zero}
-use lib.ListN.{length, get_or, drop, get_or-eq_default}
-use lib.Seq.{drop-cons, get_or-drop, drop-drop, drop-append_seam}
+use Rattle.std.proofs.Common.{ℕ, suc, ◌+◌, ◌≤◌, ◌<◌, ◌≡◌, true, false, List, [], ◌∷◌, ◌++◌, length, get_or, drop, sym, ap, ◌∙◌, add-zero, add-one, arith, drop-cons, get_or-drop, drop-drop}
+use Rattle.std.proofs.Math.ListN.{get_or-eq_default}
+use Rattle.std.proofs.Math.Seq.{drop-append_seam}
 use Rattle.finite.specs.Tests.{under}
 use Rattle.finite.proofs.Cases.{by_less}
 use Rattle.finite.proofs.Tests.{under_is, is_under, not_under, and_l, and_r, and_no_l, and_no_r}

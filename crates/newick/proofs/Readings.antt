@@ -1,18 +1,13 @@
 -- What is found at a place is a tree whose bytes stand there (`sound`), and each such tree that no digit follows is found (`complete`), by induction on
 -- the tree. So a text has one reading: what is found at its start.
 -- Assumes nothing.
-use Prim.Native.Nat.{ℕ, zero, suc, ◌+◌, ◌-◌, ◌*◌, ◌≤◌}
-use mathlib.Core.Path.{◌≡◌, refl, sym, ap, ◌∙◌}
-use mathlib.Core.Bool.{false}
-use mathlib.Core.List.{List, [], ◌∷◌, ◌++◌, append_assoc}
-use native.Mathlib.Omega.{arith}
-use lib.ListN.{length, get_or, drop, length-append}
+use Rattle.std.proofs.Common.{ℕ, zero, suc, ◌+◌, ◌-◌, ◌*◌, ◌≤◌, ◌≡◌, false, List, [], ◌∷◌, ◌++◌, length, get_or, drop, Option, Some, refl, sym, ap, ◌∙◌, append_assoc, arith, length-append}
 use Rattle.finite.specs.Tests.{same}
 use Rattle.finite.proofs.Tests.{is_same, not_same}
 use Rattle.newick.specs.Trees.{Tree, leaf, pair, spelled, text_of, Proper, HasText, genes}
-use Rattle.newick.specs.Reading.{byte_at, digit_from, found, leaf_of, closed, paired, tree_in, tree_at, pair_at}
+use Rattle.newick.specs.Reading.{byte_at, digit_from, Found, found, leaf_of, closed, paired, tree_in, tree_at, pair_at}
 use Rattle.newick.proofs.Places.{digit_low, digit_less, digit_more, front, past, past_one, opens}
-use Rattle.newick.proofs.Trees.{none_found, by_tree, tree_eq}
+use Rattle.newick.proofs.Trees.{by_tree, tree_eq}
 use Rattle.newick.proofs.Numerals.{leaf_sound, leaf_complete, numeral_of, numeral_short}
 
 -- a tree whose text stands at a place
@@ -24,30 +19,30 @@ pub record Stands (text : List ℕ) (at : ℕ) (t : Tree) (next : ℕ) : Type 0 
 bracketed : (a b c d : List ℕ) (l r : List ℕ) → a ≡ 40 ∷ b → b ≡ l ++ (44 ∷ c) → c ≡ r ++ (41 ∷ d) → a ≡ (40 ∷ (l ++ (44 ∷ (r ++ (41 ∷ []))))) ++ d
 bracketed a b c d l r e₁ e₂ e₃ = e₁ ∙ ap (λ (x : List ℕ). 40 ∷ x) (e₂ ∙ ap (λ (x : List ℕ). l ++ (44 ∷ x)) (e₃ ∙ sym (append_assoc r (41 ∷ []) d)) ∙ sym (append_assoc l (44 ∷ (r ++ (41 ∷ []))) d))
 
-tree_sound : (text : List ℕ) (k at : ℕ) (t : Tree) (next : ℕ) → tree_in text k at ≡ found t next → Stands text at t next
+tree_sound : (text : List ℕ) (k at : ℕ) (f : Found) → tree_in text k at ≡ Some f → Stands text at f.tree f.next
 unfolding tree_in spelled Proper
-tree_sound text zero at t next e = none_found e
-tree_sound text (suc k) at t next e = by_tree text k at t next e
-    (λ b p. let l = tree_sound text k (suc at) p.left p.comma p.left_is in
-    let r = tree_sound text k (suc p.comma) p.right p.close p.right_is in
+tree_sound text zero at f e = cc
+tree_sound text (suc k) at f e = by_tree text k at f e
+    (λ b p. let l = tree_sound text k (suc at) p.left p.left_is in
+    let r = tree_sound text k (suc p.left.next) p.right p.right_is in
     rw (p.tree_is, p.next_is)
     (record {
       proper = (l.proper, r.proper);
-      text_is = bracketed (drop at text) (drop (suc at) text) (drop (suc p.comma) text) (drop (suc p.close) text) (spelled p.left) (spelled p.right)
+      text_is = bracketed (drop at text) (drop (suc at) text) (drop (suc p.left.next) text) (drop (suc p.right.next) text) (spelled p.left.tree) (spelled p.right.tree)
           (opens text at 40 b (omega arith))
-          (l.text_is ∙ ap (λ (x : List ℕ). spelled p.left ++ x) (opens text p.comma 44 p.comma_is (omega arith)))
-          (r.text_is ∙ ap (λ (x : List ℕ). spelled p.right ++ x) (opens text p.close 41 p.close_is (omega arith)));
+          (l.text_is ∙ ap (λ (x : List ℕ). spelled p.left.tree ++ x) (opens text p.left.next 44 p.comma_is (omega arith)))
+          (r.text_is ∙ ap (λ (x : List ℕ). spelled p.right.tree ++ x) (opens text p.right.next 41 p.close_is (omega arith)));
     }))
-    (λ s q ts. let g = leaf_sound text at s next q in
-    rw ts (record { proper = (g.some, g.small); text_is = g.text_is }))
+    (λ n q d. let g = leaf_sound text at n q in
+    rw d (record { proper = (g.some, g.small); text_is = g.text_is }))
 
-pub sound : (text : List ℕ) (at : ℕ) (t : Tree) (next : ℕ) → tree_at text at ≡ found t next → Stands text at t next
+pub sound : (text : List ℕ) (at : ℕ) (f : Found) → tree_at text at ≡ Some f → Stands text at f.tree f.next
 unfolding tree_at
-sound text at t next e = tree_sound text (suc (length text - at)) at t next e
+sound text at f e = tree_sound text (suc (length text - at)) at f e
 
 -- each tree that stands at a place is found there, if no digit follows it
 pub complete : (t : Tree) (text : List ℕ) (at : ℕ) (rest : List ℕ) → Proper t → drop at text ≡ spelled t ++ rest → digit_from 48 (get_or rest 0 0) ≡ false
-    → tree_at text at ≡ found t (at + length (spelled t))
+    → tree_at text at ≡ Some (found t (at + length (spelled t)))
 unfolding spelled Proper leaf_of pair_at paired closed
 complete (leaf s) text at rest ok e d =
     let g = numeral_of s ok.0 ok.1 in
@@ -66,18 +61,18 @@ complete (pair l r) text at rest ok e d =
     let b₄ : byte_at text (suc (suc at + length (spelled l)) + length (spelled r)) ≡ 41 = front text (suc (suc at + length (spelled l)) + length (spelled r)) _ e₄ in
     let n : suc (suc (suc at + length (spelled l)) + length (spelled r)) ≡ at + length (spelled (pair l r)) =
     rw (length-append, length-append) (omega arith) in
-    tree_eq text at ∙ rw (is_same b, f₁, is_same b₂, f₃, is_same b₄) (ap (λ (i : ℕ). found (pair l r) i) n)
+    tree_eq text at ∙ rw (is_same b, f₁, is_same b₂, f₃, is_same b₄) (ap (λ (i : ℕ). Some (found (pair l r) i)) n)
 
 -- a text has one reading
-pub reads : (text : List ℕ) (t : Tree) → Proper t → text ≡ text_of t → tree_at text 0 ≡ found t (length (spelled t))
+pub reads : (text : List ℕ) (t : Tree) → Proper t → text ≡ text_of t → tree_at text 0 ≡ Some (found t (length (spelled t)))
 unfolding text_of
-reads text t ok e = complete t text 0 (59 ∷ []) ok e (digit_more 48 59 (omega arith)) ∙ ap (λ (i : ℕ). found t i) (omega arith)
+reads text t ok e = complete t text 0 (59 ∷ []) ok e (digit_more 48 59 (omega arith)) ∙ ap (λ (i : ℕ). Some (found t i)) (omega arith)
+
+pub one_found : {r : Option Found} {t t' : Tree} {n n' : ℕ} → r ≡ Some (found t n) → r ≡ Some (found t' n') → t ≡ t'
+one_found {r} {t} {t'} {n} {n'} e e' = let q : found t n ≡ found t' n' = cc in ap (λ (f : Found). f.tree) q
 
 pub one_reading : (t t' : Tree) → Proper t → Proper t' → text_of t ≡ text_of t' → t ≡ t'
-one_reading t t' ok ok' e =
-    let a = reads (text_of t) t ok refl in
-    let b = reads (text_of t) t' ok' e in
-    cc
+one_reading t t' ok ok' e = one_found (reads (text_of t) t ok refl) (reads (text_of t) t' ok' e)
 
 pub one_tree : (text : List ℕ) (t t' : Tree) → HasText text t → HasText text t' → t ≡ t'
 one_tree text t t' w w' = one_reading t t' w.proper w'.proper (sym w.text_is ∙ w'.text_is)

@@ -1,13 +1,13 @@
 -- What the reader of a text answers and leaves (02, (i)): refusals 14 and 15, and what each case of the answer says.
 -- Assumes nothing.
-use Rattle.std.specs.Prelude.{ℕ, ◌≤◌, ◌<◌, ◌≡◌, List, [], ◌∷◌, length}
+use Rattle.std.specs.Prelude.{ℕ, ◌≤◌, ◌<◌, ◌≡◌, List, [], ◌∷◌, length, Result, Ok, Err}
 use Rattle.finite.specs.Tests.{same}
 use Rattle.finite.specs.Refusals.{Refusal}
 use Rattle.layout.specs.Lines.{nodes_in, genes_in}
 use Rattle.newick.specs.Trees.{Tree, HasText, OfGrammar, genes, gene_lines_of}
 use Rattle.newick.specs.Reading.{answer_of}
-use Rattle.newick.specs.declared.Answer.{Answer}
-use Rattle.newick.specs.declared.Answer.TheVariants.{Genes, Outside, Long, Many}
+use Rattle.newick.specs.declared.Unreadable.{Unreadable}
+use Rattle.newick.specs.declared.Unreadable.TheVariants.{Outside, Long, Many}
 
 -- "the number of genes read": a text that is taken, of m genes
 pub record Taken (text : List ℕ) (m : ℕ) : Type 0 where
@@ -35,11 +35,11 @@ pub record TooMany (text : List ℕ) : Type 0 where
   pub many : 127 < genes tree
 
 -- the refusal of each answer, 0 for none
-unfoldable pub refusal_of : Answer → ℕ
-refusal_of (Genes m) = 0
-refusal_of Outside = 14
-refusal_of Long = 15
-refusal_of Many = 15
+unfoldable pub refusal_of : Result ℕ Unreadable → ℕ
+refusal_of (Ok m) = 0
+refusal_of (Err Outside) = 14
+refusal_of (Err Long) = 15
+refusal_of (Err Many) = 15
 
 -- the refusals of a text in the order of checking
 unfoldable pub text_refusals : List ℕ → List Refusal
@@ -49,14 +49,14 @@ text_refusals text =
 
 -- what each case of the answer says of the text, and of the lines of a sheet of n nodes before and after the call: the lines of the genes are those of
 -- the tree that the text is of
-abbrev pub Says : (text : List ℕ) (n : ℕ) (lines lines_after : List ℕ) → Answer → Type 0
-Says text n lines lines_after (Genes m) = (t : Taken text m) × (genes_in n m lines_after ≡ gene_lines_of t.tree)
-Says text n lines lines_after Outside = Refusal14 text
-Says text n lines lines_after Long = (574 < length text) × (lines_after ≡ lines)
-Says text n lines lines_after Many = TooMany text
+abbrev pub Says : (text : List ℕ) (n : ℕ) (lines lines_after : List ℕ) → Result ℕ Unreadable → Type 0
+Says text n lines lines_after (Ok m) = (t : Taken text m) × (genes_in n m lines_after ≡ gene_lines_of t.tree)
+Says text n lines lines_after (Err Outside) = Refusal14 text
+Says text n lines lines_after (Err Long) = (574 < length text) × (lines_after ≡ lines)
+Says text n lines lines_after (Err Many) = TooMany text
 
 -- the promise of the reader
-pub record Promise (text : List ℕ) (n : ℕ) (lines lines_after : List ℕ) (answer : Answer) : Type 0 where
+pub record Promise (text : List ℕ) (n : ℕ) (lines lines_after : List ℕ) (answer : Result ℕ Unreadable) : Type 0 where
   pub says : Says text n lines lines_after answer
   -- the answer as an equation that computes
   pub answer_is : answer ≡ answer_of text

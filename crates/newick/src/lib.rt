@@ -1,11 +1,10 @@
 // Gene trees as Newick text: the tree reader and the pair reader call each other, and number the genes as they meet them.
 #![tactic(auto)]
 
-ghost use Rattle.std.specs.Prelude.{◌≡◌, ◌+◌, ◌-◌, ◌≤◌, ◌<◌, length, get_or};
-ghost use Rattle.layout.specs.Lines.{cell_count};
+ghost use Rattle.std.specs.Prelude.{◌≡◌, ◌+◌, ◌≤◌, ◌<◌, length, IfSome, OnSome};
 ghost use Rattle.newick.specs.Reading.{leaf_at, tree_at, pair_at};
 ghost use Rattle.newick.specs.Answers.{Promise};
-ghost use Rattle.newick.specs.inner.Steps.{entered, Outcome};
+ghost use Rattle.newick.specs.inner.Steps.{digit_at, passed, entered, Outcome};
 
 use layout::lines::{GENE_PARENT, GENE_SPECIES, Lines};
 use text_lines::FIELDS;
@@ -15,146 +14,150 @@ const GENES: usize = 127;
 
 const LONGEST: usize = 574;
 
-// A species number with the place after it, or none.
-#[derive(Clone, Copy)]
-pub enum Leaf {
-    Number(u32, usize),
-    Missing,
-}
-
-// The place after a tree, and how many genes have been met up to there; or the text is outside the grammar.
-#[derive(Clone, Copy)]
-pub enum Step {
-    Read(usize, usize),
-    Outside,
-}
-
-// What a text holds: so many genes; nothing of the grammar; too many bytes; too many genes.
-#[derive(Clone, Copy)]
-pub enum Answer {
-    Genes(usize),
+// Why a text is not taken: it is outside the grammar, or has too many bytes, or too many genes.
+#[derive(Clone, Copy, PartialEq, Eq, Debug)]
+pub enum Unreadable {
     Outside,
     Long,
     Many,
 }
 
-// The byte at a place, 0 past the end.
-fn byte(text: &[u8], at: usize) -> u8
-    ensures { result ≡ get_or text.now at 0 }
-{
-    if at < text.len() {
-        return text[at];
-    }
-    0
+// A species number with the place after it.
+#[derive(Clone, Copy)]
+struct Numeral {
+    species: u32,
+    next: usize,
 }
 
-// What a digit counts for.
-fn digit(b: u8) -> u32
-    requires { 48 ≤ b }
-    ensures { result ≡ b - 48 }
+// What the digit at a place counts for.
+fn digit(text: &[u8], at: usize) -> Option<u32>
+    ensures value { result ≡ digit_at text.now at }
+    ensures few { IfSome result (λ d. d ≤ 9) }
+    ensures within { OnSome result (at < length text.now) }
 {
-    (b - b'0') as u32
+    let b = *text.get(at)?;
+    if !b.is_ascii_digit() {
+        return None;
+    }
+    Some(u32::from(b - b'0'))
 }
 
 // The species number at a place.
-fn numeral(text: &[u8], at: usize) -> Leaf
-    ensures { result ≡ leaf_at text.now at }
+fn read_numeral(text: &[u8], at: usize) -> Option<Numeral>
+    ensures value { result ≡ leaf_at text.now at }
+    ensures within { OnSome result (at < length text.now) }
 {
-    let first = byte(text, at);
-    if first < b'1' {
-        return Leaf::Missing;
+    let mut species = digit(text, at)?;
+    if species == 0 {
+        return None;
     }
-    if first > b'9' {
-        return Leaf::Missing;
+    for next in at + 1..at + 6 {
+        let Some(d) = digit(text, next) else {
+            return Some(Numeral { species, next });
+        };
+        species = species * 10 + d;
     }
-    let mut n = digit(first);
-    let mut next = at + 1;
-    let mut i: usize = 0;
-    while i < 5 {
-        let b = byte(text, next);
-        if b < b'0' {
-            return Leaf::Number(n, next);
+    Some(Numeral {
+        species,
+        next: at + 6,
+    })
+}
+
+// A place in a text, and how many genes have been met before it.
+#[derive(Clone, Copy)]
+struct Place {
+    at: usize,
+    genes: usize,
+}
+
+// A text, and how many nodes have their lines before those of its genes.
+#[derive(Clone, Copy)]
+struct Reader<'a> {
+    text: &'a [u8],
+    nodes: usize,
+    ghost few_nodes: { nodes ≤ 127 },
+}
+
+impl Reader<'_> {
+    // The place behind a byte, where that is the next one.
+    fn pass(&self, from: Place, b: u8) -> Option<Place>
+        requires { 1 ≤ b }
+        ensures value { result ≡ passed self.now.text.now b from }
+        ensures behind { IfSome result (λ p. (p.at ≡ from.at + 1) × (p.genes ≡ from.genes)) }
+        ensures within { OnSome result (from.at < length self.now.text.now) }
+    {
+        let next = *self.text.get(from.at)?;
+        (next == b).then_some(Place {
+            at: from.at + 1,
+            ..from
+        })
+    }
+
+    // Writes a gene's parent and species, where the lines have room for it.
+    fn enter(&self, own: usize, up: usize, species: u32, lines: &mut Lines)
+        requires { up < own }
+        ensures { lines.new ≡ entered lines.old self.now.nodes own up species }
+    {
+        if own <= GENES {
+            let line = FIELDS * (self.nodes + own);
+            lines[line + GENE_PARENT] = up as u32;
+            lines[line + GENE_SPECIES] = species;
         }
-        if b > b'9' {
-            return Leaf::Number(n, next);
+    }
+
+    // The tree at a place.
+    #[cycle(pair_tree)]
+    fn tree(&self, from: Place, up: usize, lines: &mut Lines) -> Option<Place>
+        requires apart { from.genes ≤ from.at }
+        requires met { up ≤ from.genes }
+        ensures { Outcome (tree_at self.now.text.now from.at) from.genes up self.now.nodes lines.old result lines.new }
+    {
+        if let Some(inside) = self.pass(from, b'(') {
+            return self.pair(inside, up, lines);
         }
-        n = n * 10 + digit(b);
-        next += 1;
-        i += 1;
+        let Numeral { species, next } = read_numeral(self.text, from.at)?;
+        let own = from.genes + 1;
+        self.enter(own, up, species, lines);
+        Some(Place {
+            at: next,
+            genes: own,
+        })
     }
-    Leaf::Number(n, next)
-}
 
-// Writes a gene's parent and species, where the lines have room for it.
-fn enter(lines: &mut Lines, n: usize, own: usize, up: usize, species: u32)
-    requires { (n ≤ 127) × (up < own) }
-    ensures { lines.new ≡ entered lines.old n own up species }
-{
-    if own <= GENES {
-        let line = FIELDS * (n + own);
-        lines[line + GENE_PARENT] = up as u32;
-        lines[line + GENE_SPECIES] = species;
+    // The pair at a place after its bracket.
+    #[cycle(pair_tree)]
+    fn pair(&self, from: Place, up: usize, lines: &mut Lines) -> Option<Place>
+        requires apart { from.genes < from.at }
+        requires met { up ≤ from.genes }
+        ensures { Outcome (pair_at self.now.text.now from.at) from.genes up self.now.nodes lines.old result lines.new }
+    {
+        let own = from.genes + 1;
+        self.enter(own, up, 0, lines);
+        let left = self.tree(Place { genes: own, ..from }, own, lines)?;
+        let comma = self.pass(left, b',')?;
+        let right = self.tree(comma, own, lines)?;
+        self.pass(right, b')')
     }
-}
-
-// The tree at a place.
-#[cycle(pair_tree)]
-fn tree(text: &[u8], at: usize, met: usize, up: usize, n: usize, lines: &mut Lines) -> Step
-    requires { (length text.now ≤ 574) × (met ≤ at) × (up ≤ met) × (n ≤ 127) }
-    ensures { Outcome (tree_at text.now at) met up n lines.old result lines.new }
-{
-    if byte(text, at) == b'(' {
-        return pair(text, at + 1, met, up, n, lines);
-    }
-    let Leaf::Number(species, next) = numeral(text, at) else {
-        return Step::Outside;
-    };
-    enter(lines, n, met + 1, up, species);
-    Step::Read(next, met + 1)
-}
-
-// The pair at a place after its bracket.
-#[cycle(pair_tree)]
-fn pair(text: &[u8], at: usize, met: usize, up: usize, n: usize, lines: &mut Lines) -> Step
-    requires { (length text.now ≤ 574) × (met + 1 ≤ at) × (up ≤ met) × (n ≤ 127) }
-    ensures { Outcome (pair_at text.now at) met up n lines.old result lines.new }
-{
-    let own = met + 1;
-    enter(lines, n, own, up, 0);
-    let Step::Read(comma, some) = tree(text, at, own, own, n, lines) else {
-        return Step::Outside;
-    };
-    if byte(text, comma) != b',' {
-        return Step::Outside;
-    }
-    let Step::Read(close, all) = tree(text, comma + 1, some, own, n, lines) else {
-        return Step::Outside;
-    };
-    if byte(text, close) != b')' {
-        return Step::Outside;
-    }
-    Step::Read(close + 1, all)
 }
 
 // Reads a whole text, and puts the parents and the species of its genes into the gene lines of a sheet of n nodes.
-pub fn read(text: &[u8], n: usize, lines: &mut Lines) -> Answer
-    requires { (n ≤ 127) × (length lines.old ≡ cell_count) }
+pub fn read(text: &[u8], n: usize, lines: &mut Lines) -> Result<usize, Unreadable>
+    requires { n ≤ 127 }
     ensures { Promise text.now n lines.old lines.new result }
 {
     if text.len() > LONGEST {
-        return Answer::Long;
+        return Err(Unreadable::Long);
     }
-    let Step::Read(end, genes) = tree(text, 0, 0, 0, n, lines) else {
-        return Answer::Outside;
-    };
-    if byte(text, end) != b';' {
-        return Answer::Outside;
+    let reader = Reader { text, nodes: n };
+    let tree = reader
+        .tree(Place { at: 0, genes: 0 }, 0, lines)
+        .ok_or(Unreadable::Outside)?;
+    let end = reader.pass(tree, b';').ok_or(Unreadable::Outside)?;
+    if end.at != text.len() {
+        return Err(Unreadable::Outside);
     }
-    if end + 1 != text.len() {
-        return Answer::Outside;
+    if end.genes > GENES {
+        return Err(Unreadable::Many);
     }
-    if genes > GENES {
-        return Answer::Many;
-    }
-    Answer::Genes(genes)
+    Ok(end.genes)
 }

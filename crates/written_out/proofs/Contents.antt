@@ -1,11 +1,7 @@
 -- The sheet written out passes 3, 4 and 5, and says what s says of the network and the costs, and what K says of the genes: each line has the numbers
 -- that proofs/Lines gives it, and what no line is about is 0 on both sides.
 -- Assumes nothing.
-use Prim.Native.Nat.{ℕ, ◌+◌, ◌≤◌, ◌<◌}
-use mathlib.Core.Path.{◌≡◌, refl, sym, ap, ◌∙◌, subst}
-use mathlib.Core.Bool.{false}
-use mathlib.Core.List.{List}
-use native.Mathlib.Omega.{arith}
+use Rattle.std.proofs.Common.{ℕ, ◌+◌, ◌≤◌, ◌<◌, ◌≡◌, false, List, refl, sym, ap, ◌∙◌, subst, arith}
 use Rattle.finite.specs.Tables.{at, within}
 use Rattle.finite.specs.Refusals.{verdict}
 use Rattle.finite.proofs.Tables.{within_same}
@@ -15,7 +11,7 @@ use Rattle.text_lines.specs.Lines.{field_count}
 use Rattle.topology.specs.Lines.{GeneLines}
 use Rattle.layout.specs.Headers.{costs, WithinLimits}
 use Rattle.layout.specs.declared.Header.{Header}
-use Rattle.sheet.specs.Sheets.{header_in, header_by, nodes, genes, line_no, is_line, cell, node_line, limits, refusal3, refusal4, refusal5, WellFormed}
+use Rattle.sheet.specs.Sheets.{header_in, header_by, nodes, genes, line_no, is_line, cell, node_line, refusal3, refusal4, refusal5, WellFormed}
 use Rattle.sheet.proofs.Limits.{is_limits}
 use Rattle.sheet.proofs.Refusals.{found_line, same_cells, header_same, formed_well, within_limits}
 use Rattle.family.specs.Families.{Contents}

@@ -1,12 +1,8 @@
 -- Each line of the sheet written out is a line of one of its three parts, for these are whole lines each (`left_line`, `right_line`): its bytes are the
 -- header's, those of the same line of s, or a gene's. A line that is the line of some numbers has one reading, so these numbers are what is read.
 -- Assumes nothing.
-use Prim.Native.Nat.{ℕ, zero, suc, ◌+◌, ◌*◌, ◌≤◌, ◌<◌}
-use mathlib.Core.Path.{◌≡◌, refl, ap, ◌∙◌}
-use mathlib.Core.List.{List, ◌++◌}
-use lib.ListN.{length, take, drop, length-append, length-drop}
-use lib.Seq.{take_all, take_at, drop_at, drop-drop, take-append-le, drop-append-le}
-use native.Mathlib.Omega.{arith}
+use Rattle.std.proofs.Common.{ℕ, zero, suc, ◌+◌, ◌*◌, ◌≤◌, ◌<◌, ◌≡◌, List, ◌++◌, length, take, drop, refl, ap, ◌∙◌, arith, length-append, length-drop, drop-drop}
+use Rattle.std.proofs.Math.Seq.{take_all, take_at, drop_at, take-append-le, drop-append-le}
 use Rattle.finite.proofs.Cases.{by_eq}
 use Rattle.finite.proofs.Tests.{same_is, and_l}
 use Rattle.finite.proofs.Every.{every_at}

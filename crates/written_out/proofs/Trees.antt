@@ -1,9 +1,7 @@
 -- The gene lines of a tree can be written out: a gene's parent is 0 or a gene before it, its species is 0 or a leaf's number, which has six digits at
 -- most, and the lines are 0 for what is no gene.
 -- Assumes nothing.
-use Prim.Native.Nat.{ℕ, suc, ◌+◌, ◌≤◌, ◌<◌}
-use mathlib.Core.Path.{◌≡◌, refl, ap}
-use native.Mathlib.Omega.{arith}
+use Rattle.std.proofs.Common.{ℕ, suc, ◌+◌, ◌≤◌, ◌<◌, ◌≡◌, refl, ap, arith}
 use Rattle.finite.proofs.Cases.{by_eq, by_less}
 use Rattle.topology.specs.Lines.{GeneLines}
 use Rattle.newick.specs.Trees.{Tree, leaf, pair, Proper, genes, no_line, line_at, gene_lines_of}

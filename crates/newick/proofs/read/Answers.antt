@@ -1,29 +1,36 @@
 -- `newick::read` meets its contract: each return is one law of proofs/Answers.
 -- Assumes nothing.
-use native.Mathlib.Omega.{arith}
-use Rattle.newick.proofs.Turns.{inside_byte}
+use Rattle.std.proofs.Common.{◌≡◌, None, Some, Err, rules, arith}
 use Rattle.newick.proofs.Answers.{answer_long, answer_none, answer_unended, answer_longer, answer_many, answer_genes}
-use borrow.Author.Rules.{rules}
+use Rattle.newick.specs.declared.Unreadable.TheVariants.{Outside}
 use Rattle.newick.proofs.read.Goals as goal
 
 pub returns-then-text-gt-LONGEST : goal.returns-then-text-gt-LONGEST
 returns-then-text-gt-LONGEST c = answer_long _ _ _ (omega arith)
 
-pub returns-in_default : goal.returns-in_default
-returns-in_default c = search (rules, answer_none)
+pub returns-in_err-tree : goal.returns-in_err-tree
+returns-in_err-tree c =
+    let e : c.from_residual.result ≡ Err Outside = search rules in
+    let d : c.tree.result ≡ None = search rules in
+    rw e (answer_none _ _ _ _ (omega arith) (rw d at c.tree.ensures))
 
-pub returns-then-byte-ne59 : goal.returns-then-byte-ne59
-returns-then-byte-ne59 c = search (rules, answer_unended)
-
-pub overflow_add-end : goal.overflow_add-end
-overflow_add-end c = let a = c.args in
-    omega (arith, inside_byte a.text.now _ c.byte.result 59 c.byte.ensures c.if-byte-ne59.false (omega arith))
+pub returns-in_err-end : goal.returns-in_err-end
+returns-in_err-end c =
+    let e : c.from_residual-in_err-end.result ≡ Err Outside = search rules in
+    let d : c.tree.result ≡ Some c.in_ok-tree.tree = search rules in
+    rw e (answer_unended _ _ _ _ (omega arith) _ (rw d at c.tree.ensures) (search rules))
 
 pub returns-then-end-text : goal.returns-then-end-text
-returns-then-end-text c = search (rules, answer_longer)
+returns-then-end-text c =
+    let d : c.tree.result ≡ Some c.in_ok-tree.tree = search rules in
+    answer_longer _ _ _ _ (omega arith) _ (rw d at c.tree.ensures) c.in_ok-end.end (search rules) c.if-end-text.true
 
-pub returns-then-genes-gt-GENES : goal.returns-then-genes-gt-GENES
-returns-then-genes-gt-GENES c = answer_many _ _ _ _ _ (search rules) c.tree.ensures _ _ _ c.in-Read.is c.byte.ensures c.if-byte-ne59.false c.if-end-text.false (omega arith)
+pub returns-then-end-gt-GENES : goal.returns-then-end-gt-GENES
+returns-then-end-gt-GENES c =
+    let d : c.tree.result ≡ Some c.in_ok-tree.tree = search rules in
+    answer_many _ _ _ _ (omega arith) _ (rw d at c.tree.ensures) c.in_ok-end.end (search rules) c.if-end-text.false (omega arith)
 
 pub returns : goal.returns
-returns c = search (rules, answer_genes)
+returns c =
+    let d : c.tree.result ≡ Some c.in_ok-tree.tree = search rules in
+    answer_genes _ _ _ _ (omega arith) _ (rw d at c.tree.ensures) c.in_ok-end.end (search rules) c.if-end-text.false c.requires c.told-lines (omega arith)

@@ -1,14 +1,14 @@
 -- Texts and their answers, by computation: the smallest and the largest, and texts that a reader could take by mistake.
 -- Assumes nothing.
-use Rattle.std.specs.Prelude.{ℕ, zero, suc, ◌≡◌, refl, List, [], ◌∷◌, take}
+use Rattle.std.specs.Prelude.{ℕ, zero, suc, ◌≡◌, refl, List, [], ◌∷◌, take, replicate, Result, Ok, Err}
 use Prim.Native.String.{String, [] as nil, ◌∷◌ as ◌◂◌}
 use Prim.Native.Char.{code}
 use Rattle.finite.specs.Tests.{same, under}
 use Rattle.columns.specs.Fields.{numeral_in, numeral}
 use Rattle.newick.specs.Trees.{Tree, leaf, pair, GeneLine, spelled, text_of, genes, lines_from}
 use Rattle.newick.specs.Reading.{digit_from, more_at, leaf_at, leaf_of, closed, paired, tree_in, tree_at, answer_to, answer_of}
-use Rattle.newick.specs.declared.Answer.{Answer}
-use Rattle.newick.specs.declared.Answer.TheVariants.{Genes, Outside, Many}
+use Rattle.newick.specs.declared.Unreadable.{Unreadable}
+use Rattle.newick.specs.declared.Unreadable.TheVariants.{Outside, Many}
 
 -- the bytes of a text
 abbrev bytes : String → List ℕ
@@ -16,7 +16,7 @@ bytes nil = []
 bytes (c ◂ s) = code c ∷ bytes s
 
 -- the answers to texts
-answers_to : List (List ℕ) → List Answer
+answers_to : List (List ℕ) → List (Result ℕ Unreadable)
 answers_to [] = []
 answers_to (x ∷ xs) = answer_of x ∷ answers_to xs
 
@@ -45,17 +45,17 @@ lines : lines_from 1 0 (pair (pair (leaf 3) (leaf 20)) (leaf 2)) ≡ line 0 0 �
 unfolding open_Newick
 lines = refl
 
-taken : answers_to (bytes "1;" ∷ bytes "999999;" ∷ bytes "((3,20),2);" ∷ text_of (full 6) ∷ []) ≡ Genes 1 ∷ Genes 1 ∷ Genes 5 ∷ Genes 127 ∷ []
+taken : answers_to (bytes "1;" ∷ bytes "999999;" ∷ bytes "((3,20),2);" ∷ text_of (full 6) ∷ []) ≡ Ok 1 ∷ Ok 1 ∷ Ok 5 ∷ Ok 127 ∷ []
 unfolding open_Newick
 taken = refl
 
 outside :
     answers_to (bytes "" ∷ bytes "1" ∷ bytes "0;" ∷ bytes "01;" ∷ bytes "1000000;" ∷ bytes "1; " ∷ bytes "(1);" ∷ bytes "(1,2,3);" ∷ bytes "(1, 2);" ∷ bytes "(1:2,3);" ∷ [])
-    ≡ Outside ∷ Outside ∷ Outside ∷ Outside ∷ Outside ∷ Outside ∷ Outside ∷ Outside ∷ Outside ∷ Outside ∷ []
+    ≡ replicate 10 (Err Outside)
 unfolding open_Newick
 outside = refl
 
 -- 129 genes; the same text broken off after its 128th
-many : answers_to (text_of (comb 64) ∷ take 254 (text_of (comb 64)) ∷ []) ≡ Many ∷ Outside ∷ []
+many : answers_to (text_of (comb 64) ∷ take 254 (text_of (comb 64)) ∷ []) ≡ Err Many ∷ Err Outside ∷ []
 unfolding open_Newick
 many = refl

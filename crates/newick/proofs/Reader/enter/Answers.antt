@@ -1,11 +1,9 @@
--- `newick::enter` meets its contract: `entered` writes for genes below 128 and for no other.
+-- `newick::Reader::enter` meets its contract: `entered` writes for genes below 128 and for no other.
 -- Assumes nothing.
-use mathlib.Core.Path.{sym}
-use Prim.Native.Nat.{◌≤◌, ◌<◌}
+use Rattle.std.proofs.Common.{◌≤◌, ◌<◌, sym, arith}
 use Rattle.finite.proofs.Tests.{is_under, not_under}
 use Rattle.newick.specs.inner.Steps.{entered}
-use native.Mathlib.Omega.{arith}
-use Rattle.newick.proofs.enter.Goals as goal
+use Rattle.newick.proofs.Reader.enter.Goals as goal
 
 pub returns-then-own-le-GENES : goal.returns-then-own-le-GENES
 unfolding entered
