@@ -20,14 +20,16 @@ pub const PLAINS: usize = 2;
 pub const BEARERS: usize = 3;
 
 // The principal parent of a node that is no reticulation, else 0.
-fn plain_parent(lines: &Lines, w: usize) -> usize
-    requires { w ≤ 127 }
-    ensures { result ≡ plain_parent (principal lines.now w) (secondary lines.now w) }
+#[tactic(auto, unfolding(crate::specs::inner::ShortForms::plain_parent, finite::specs::Tests::same))]
+fn plain_parent(lines: &Lines, v: usize) -> usize
+    requires { v ≤ 127 }
+    ensures { result ≡ plain_parent (principal lines.now v) (secondary lines.now v) }
 {
-    if secondary(lines, w) != 0 {
-        return 0;
+    if secondary(lines, v) == 0 {
+        principal(lines, v)
+    } else {
+        0
     }
-    principal(lines, w)
 }
 
 // The arcs out of each node that lead to no reticulation: all are principal.

@@ -20,7 +20,7 @@ loop-v-preserved c = let s = c.requires in
     let i = c.loop-v.invariant in
     let plain-parent-is = c.plain_parent.ensures in
     let count-at-is = c.count_at.ensures in
-    (search rules, counted_turn _ _ _ s.0 (omega arith) _ _ _ _ (plain_read _ (search rules) (search rules) plain-parent-is) count-at-is i.1, kept_raised _ _ _ _ _ _ s.0 count-at-is i.2)
+    (search rules, counted_turn _ _ _ s.0 (omega arith) _ _ _ _ (plain_read _ _ _ (search rules) (search rules) plain-parent-is) count-at-is i.1, kept_raised _ _ _ _ _ _ s.0 count-at-is i.2)
 
 pub returns : goal.returns
 returns c = let s = c.requires in
