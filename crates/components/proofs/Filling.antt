@@ -5,25 +5,25 @@ use mathlib.Core.Path.{◌≡◌, refl, sym, ◌∙◌, ap}
 use mathlib.Core.Logic.{◌≢◌}
 use mathlib.Core.Bool.{Bool, true, false, ◌&&◌, and-true}
 use mathlib.Core.List.{List}
-use Prim.Native.Nat.{ℕ, zero, suc, ◌+◌, ◌*◌, ◌≤◌, ◌<◌}
+use Prim.Native.Nat.{ℕ, zero, suc, ◌+◌, ◌-◌, ◌≤◌, ◌<◌}
 use lib.ListN.{length}
 use native.Mathlib.Omega.{arith}
 use Rattle.finite.specs.Tests.{under, tally}
 use Rattle.finite.specs.Range.{count, any}
 use Rattle.finite.proofs.Cases.{by_eq, by_bool}
-use Rattle.finite.proofs.Tests.{is_same, not_same, is_under, not_under, and_no_r}
+use Rattle.finite.proofs.Tests.{is_under, not_under, and_no_r}
 use Rattle.finite.proofs.Sum.{sum_zero_range, sum_suc}
 use Rattle.finite.proofs.Count.{count_same, count_le, count_start, count_turn}
-use Rattle.finite.proofs.Every.{some_turn, some_stop, some_done}
+use Rattle.finite.proofs.Every.{some_same}
 use Rattle.tables.specs.Columns.{entry, written, column, blank, Clear}
 use Rattle.tables.proofs.Columns.{long, write_here, write_row, write_column, column_in, column_out, column_zero, column_keeps, column_clear, blank_clear}
 use Rattle.topology.specs.Networks.{Network, Node, Sound, Reticulation}
 use Rattle.topology.specs.Components.{component, member_of, reticulation_count, index_of}
-use Rattle.topology.specs.Lines.{rank_of, network}
+use Rattle.topology.specs.Lines.{network}
 use Rattle.topology.proofs.Lines.{rank_none, rank_is as lines-rank}
 use Rattle.topology.proofs.Above.{reticulation_node}
 use Rattle.topology.proofs.Components.{component_node, member_is, is_member}
-use Rattle.layout.specs.Lines.{secondary, stamp, nodes_in}
+use Rattle.layout.specs.Lines.{secondary, nodes_in}
 use Rattle.layout.specs.inner.Parts.{rank_column, rank, top_column, top, reticulation_count_column, index_column, index, Parted}
 use Rattle.layout.specs.inner.Parts as Parts
 use Rattle.layout.proofs.Numbered.{secondary_in, stamp_in}
@@ -46,12 +46,20 @@ count_below (suc k) v f l = by_eq v (suc k) (λ e. rw (← e) (count_whole v f))
       count_below k v f (omega arith),
     ))
 
--- one number more is counted, or not
-count_hit : (v : ℕ) (f : ℕ → Bool) → f (v + 1) ≡ true → count v f + 1 ≡ count (v + 1) f
-count_hit v f e = count_turn f v _ 1 refl (rw e)
+-- those of 1..n that pass and are below v
+count_before : (n v : ℕ) (f : ℕ → Bool) → 1 ≤ v → v ≤ n → count n (λ q. f q && under q v) ≡ count (v - 1) f
+count_before n v f l u = let e : v - 1 + 1 ≡ v = omega arith in rw e at (count_below n (v - 1) f (omega arith))
 
-count_miss : (v : ℕ) (f : ℕ → Bool) → f (v + 1) ≡ false → count v f ≡ count (v + 1) f
-count_miss v f e = omega (arith, count_turn f v _ 0 refl (rw e))
+-- one number more is counted, or not
+module _ (v : ℕ) (f : ℕ → Bool) (low : 1 ≤ v) where
+  last : v - 1 + 1 ≡ v
+  last = omega arith
+
+  count_hit : f v ≡ true → count (v - 1) f + 1 ≡ count v f
+  count_hit t = rw last at (count_turn f (v - 1) _ 1 refl (rw (last, t)))
+
+  count_miss : f v ≡ false → count (v - 1) f ≡ count v f
+  count_miss t = let e : count (v - 1) f + 0 ≡ count v f = rw last at (count_turn f (v - 1) _ 0 refl (rw (last, t))) in omega arith
 
 module _ {N : Network} (ok : Sound N) where
   open N use {size}
@@ -59,91 +67,91 @@ module _ {N : Network} (ok : Sound N) where
   not_member : (c r : ℕ) → (Reticulation N r → component N r ≢ c) → member_of N c r ≡ false
   not_member c r h = by_bool (member_of N c r) (λ t. let m = member_is N c r t in absurd (h m.0 m.1)) (λ t. t)
 
-  module _ {t : List ℕ} {v : ℕ} (P : PartedTo N v t) where
+  pub parted_end : {t : List ℕ} {v : ℕ} → PartedTo N v t → v ≤ size → size ≤ v → Parted N t
+  unfolding reticulation_count
+  parted_end {t} {v} P a b = let e : v ≡ size = omega arith in record {
+    long = P.long;
+    ranks = P.ranks;
+    tops = P.tops;
+    counts = λ c k. P.counts c k ∙ ap (λ (m : ℕ). count m (member_of N c)) e;
+    indices = λ r d. P.indices r d (omega (arith, reticulation_node N ok r d));
+    none = P.none;
+    past = P.past;
+  }
+
+  module _ {t : List ℕ} {v : ℕ} (low : 1 ≤ v) (P : PartedTo N (v - 1) t) where
     -- a node that is no reticulation is not counted
-    pub parted_skip : N.secondary (v + 1) ≡ 0 → PartedTo N (v + 1) t
+    pub parted_skip : N.secondary v ≡ 0 → PartedTo N v t
     parted_skip e = record {
       long = P.long;
       ranks = P.ranks;
       tops = P.tops;
-      counts = λ c k. P.counts c k ∙ count_miss v (member_of N c) (not_member c (v + 1) (λ d. absurd (d e)));
-      indices = λ r d u. by_eq r (v + 1) (λ q. absurd (d (rw q e))) (λ q. P.indices r d (omega arith));
+      counts = λ c k. P.counts c k ∙ count_miss v (member_of N c) low (not_member c v (λ d. absurd (d e)));
+      indices = λ r d u. by_eq r v (λ q. absurd (d (rw q e))) (λ q. P.indices r d (omega arith));
       none = P.none;
       past = P.past;
     }
 
-    pub parted_end : v ≤ size → size ≤ v → Parted N t
-    unfolding reticulation_count
-    parted_end a b = let e : v ≡ size = omega arith in record {
-      long = P.long;
-      ranks = P.ranks;
-      tops = P.tops;
-      counts = λ c k. P.counts c k ∙ ap (λ (m : ℕ). count m (member_of N c)) e;
-      indices = λ r d. P.indices r d (omega (arith, reticulation_node N ok r d));
-      none = P.none;
-      past = P.past;
-    }
+    module _ (few : size ≤ 127) (d : Reticulation N v) where
+      node : Node N v
+      node = reticulation_node N ok v d
 
-    module _ (few : size ≤ 127) (d : Reticulation N (v + 1)) where
-      node : Node N (v + 1)
-      node = reticulation_node N ok (v + 1) d
-
-      module _ {c : ℕ} (ec : c ≡ top t (v + 1)) where
-        top_is : c ≡ component N (v + 1)
-        top_is = ec ∙ P.tops (v + 1) node
+      module _ {c : ℕ} (ec : c ≡ top t v) where
+        top_is : c ≡ component N v
+        top_is = ec ∙ P.tops v node
 
         top_node : Node N c
-        top_node = rw top_is (component_node N ok (v + 1) node)
+        top_node = rw top_is (component_node N ok v node)
 
         pub top_fits : c ≤ 127
         top_fits = omega (arith, top_node.high)
 
         module _ {k : ℕ} (ek : k ≡ Parts.reticulation_count t c) where
-          counted : k ≡ count v (member_of N c)
+          counted : k ≡ count (v - 1) (member_of N c)
           counted = ek ∙ P.counts c top_node
 
           pub count_fits : k ≤ 127
-          count_fits = omega (arith, counted, count_le v (member_of N c), node.high)
+          count_fits = omega (arith, counted, count_le (v - 1) (member_of N c), node.high)
 
-          index_is : k ≡ index_of N (v + 1)
+          index_is : k ≡ index_of N v
           unfolding index_of
-          index_is = counted ∙ rw top_is (sym (count_below size v (member_of N (component N (v + 1))) (omega (arith, node.high))))
+          index_is = counted ∙ rw top_is (sym (count_before size v (member_of N (component N v)) low node.high))
 
           -- a reticulation is counted at its top, and has its index
-          module _ {s u : List ℕ} (es : s ≡ written t index_column (v + 1) k) (eu : u ≡ written s reticulation_count_column c (k + 1)) where
-            lv : v + 1 < 128
+          module _ {s u : List ℕ} (es : s ≡ written t index_column v k) (eu : u ≡ written s reticulation_count_column c (k + 1)) where
+            lv : v < 128
             lv = omega (arith, node.high)
 
             lc : c < 128
             lc = omega (arith, top_fits)
 
             s_long : length s ≡ 512
-            s_long = rw es (long t index_column (v + 1) k lv ∙ P.long)
+            s_long = rw es (long t index_column v k lv ∙ P.long)
 
             u_long : length u ≡ 512
             u_long = rw eu (long s reticulation_count_column c (k + 1) lc ∙ s_long)
 
             others : (j w : ℕ) → j ≢ index_column → j ≢ reticulation_count_column → entry u j w ≡ entry t j w
-            others j w a b = rw eu (write_column s reticulation_count_column c (k + 1) lc j w b ∙ rw es (write_column t index_column (v + 1) k lv j w a))
+            others j w a b = rw eu (write_column s reticulation_count_column c (k + 1) lc j w b ∙ rw es (write_column t index_column v k lv j w a))
 
-            rows : (j w : ℕ) → w ≢ v + 1 → w ≢ c → entry u j w ≡ entry t j w
-            rows j w a b = rw eu (write_row s reticulation_count_column c (k + 1) lc j w b ∙ rw es (write_row t index_column (v + 1) k lv j w a))
+            rows : (j w : ℕ) → w ≢ v → w ≢ c → entry u j w ≡ entry t j w
+            rows j w a b = rw eu (write_row s reticulation_count_column c (k + 1) lc j w b ∙ rw es (write_row t index_column v k lv j w a))
 
-            count_of : (w : ℕ) → Node N w → Parts.reticulation_count u w ≡ count (v + 1) (member_of N w)
+            count_of : (w : ℕ) → Node N w → Parts.reticulation_count u w ≡ count v (member_of N w)
             count_of w q = by_eq w c
                 (λ e. rw (e, eu) (write_here s reticulation_count_column c (k + 1) lc (omega (arith, s_long)) ∙ ap (λ (m : ℕ). m + 1) counted
-                ∙ count_hit v (member_of N c) (is_member N c (v + 1) d (sym top_is))))
+                ∙ count_hit v (member_of N c) low (is_member N c v d (sym top_is))))
                 (λ a. ap (λ (y : List ℕ). Parts.reticulation_count y w) eu ∙ write_row s reticulation_count_column c (k + 1) lc reticulation_count_column w a
-                ∙ ap (λ (y : List ℕ). Parts.reticulation_count y w) es ∙ write_column t index_column (v + 1) k lv reticulation_count_column w (λ e. omega arith)
-                ∙ P.counts w q ∙ count_miss v (member_of N w) (not_member w (v + 1) (λ _ e. a (sym e ∙ sym top_is))))
+                ∙ ap (λ (y : List ℕ). Parts.reticulation_count y w) es ∙ write_column t index_column v k lv reticulation_count_column w (λ e. omega arith)
+                ∙ P.counts w q ∙ count_miss v (member_of N w) low (not_member w v (λ _ e. a (sym e ∙ sym top_is))))
 
-            index_of_lem : (r : ℕ) → Reticulation N r → r ≤ v + 1 → index u r ≡ index_of N r
+            index_of_lem : (r : ℕ) → Reticulation N r → r ≤ v → index u r ≡ index_of N r
             index_of_lem r dr l = ap (λ (y : List ℕ). index y r) eu ∙ write_column s reticulation_count_column c (k + 1) lc index_column r (λ e. omega arith)
                 ∙ ap (λ (y : List ℕ). index y r) es
-                ∙ by_eq r (v + 1) (λ e. rw e (write_here t index_column (v + 1) k lv (omega (arith, P.long, lv)) ∙ index_is))
-                (λ a. write_row t index_column (v + 1) k lv index_column r a ∙ P.indices r dr (omega arith))
+                ∙ by_eq r v (λ e. rw e (write_here t index_column v k lv (omega (arith, P.long, lv)) ∙ index_is))
+                (λ a. write_row t index_column v k lv index_column r a ∙ P.indices r dr (omega arith))
 
-            pub parted_next : PartedTo N (v + 1) u
+            pub parted_next : PartedTo N v u
             parted_next = record {
               long = u_long;
               ranks = λ w l. others rank_column w (λ e. omega arith) (λ e. omega arith) ∙ P.ranks w l;
@@ -219,30 +227,30 @@ module _ (n : ℕ) (l : List ℕ) (few : n ≤ 127) where
   unfolding network nodes_in
   size_few = few
 
-  -- the turns of the loop that asks the counts: k is the count of node v + 1
-  module _ (t : List ℕ) (P : Parted N t) (v k : ℕ) (u : v < n) (e : k ≡ Parts.reticulation_count t (v + 1)) where
-    count_is : k ≡ reticulation_count N (v + 1)
-    unfolding network nodes_in
-    count_is = e ∙ P.counts (v + 1) (record { low = omega arith; high = omega arith })
+  -- node v with the secondary parent x, where the nodes below it are counted in t
+  module _ (ok : Sound N) (v : ℕ) (low : 1 ≤ v) (high : v ≤ n) (t : List ℕ) (P : PartedTo N (v - 1) t) {x : ℕ} (ex : x ≡ secondary l v) where
+    parent_is : N.secondary v ≡ x
+    unfolding network
+    parent_is = secondary_in n l v low high ∙ sym ex
 
-    pub crowded_stop : 8 < k → true ≡ refusal11 N
-    unfolding refusal11 crowded_at network nodes_in
-    crowded_stop q = some_stop (crowded_at N) n v (under 8 k) u (ap (under 8) count_is) (is_under q)
+    pub node_skip : x ≡ 0 → PartedTo N v t
+    node_skip z = parted_skip ok low P (parent_is ∙ z)
 
-    pub crowded_turn : k ≤ 8 → any v (crowded_at N) ≡ false → any (v + 1) (crowded_at N) ≡ false
-    unfolding crowded_at
-    crowded_turn q h = some_turn (crowded_at N) v (under 8 k) h (ap (under 8) count_is) (not_under q)
+    module _ (d : x ≡ 0 → ⊥) {c : ℕ} (ec : c ≡ top t v) where
+      some : Reticulation N v
+      some z = d (sym parent_is ∙ z)
 
-  pub crowded_done : (v : ℕ) → v ≤ n → n ≤ v → any v (crowded_at N) ≡ false → false ≡ refusal11 N
-  unfolding refusal11 network nodes_in
-  crowded_done v a b h = some_done (crowded_at N) n v a b h
+      pub node_top : c ≤ 127
+      node_top = top_fits ok low P size_few some ec
 
--- a node's rank: s is its secondary parent, x its stamp
-module _ (l : List ℕ) (v s x : ℕ) (es : s ≡ secondary l v) (ex : x ≡ stamp l v) where
-  pub rank_plain : s ≡ 0 → 2 * x + 1 ≡ rank_at l v
-  unfolding rank_at rank_of
-  rank_plain z = rw (← es, ← ex, is_same z) (omega arith)
+      module _ {k : ℕ} (ek : k ≡ Parts.reticulation_count t c) where
+        pub node_count : k ≤ 127
+        node_count = count_fits ok low P size_few some ec ek
 
-  pub rank_more : (s ≡ 0 → ⊥) → 2 * x + 1 + 1 ≡ rank_at l v
-  unfolding rank_at rank_of
-  rank_more d = rw (← es, ← ex, not_same d) (omega arith)
+        pub node_next : {s u : List ℕ} → s ≡ written t index_column v k → u ≡ written s reticulation_count_column c (k + 1) → PartedTo N v u
+        node_next es eu = parted_next ok low P size_few some ec ek es eu
+
+  -- 11 by the counts at the tops
+  pub crowded_read : (t : List ℕ) → Parted N t → any n (λ v. under 8 (Parts.reticulation_count t v)) ≡ refusal11 N
+  unfolding refusal11 crowded_at network nodes_in
+  crowded_read t P = some_same n _ _ (λ v a b. ap (under 8) (P.counts v (record { low = a; high = b })))

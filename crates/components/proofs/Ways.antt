@@ -5,7 +5,7 @@ use mathlib.Core.Path.{◌≡◌, refl, sym, ◌∙◌, ap}
 use mathlib.Core.Logic.{◌≢◌}
 use mathlib.Core.Bool.{Bool, true, false, not, ◌||◌, beq}
 use mathlib.Core.List.{List}
-use Prim.Native.Nat.{ℕ, suc, ◌+◌, ◌≤◌, ◌<◌}
+use Prim.Native.Nat.{ℕ, suc, ◌+◌, ◌-◌, ◌≤◌, ◌<◌}
 use lib.ListN.{length, set, length-set}
 use lib.Seq.{get_or-set_same, get_or-set_other}
 use native.Mathlib.Numerals.{add-one}
@@ -130,36 +130,43 @@ module _ (n : ℕ) (l t : List ℕ) (ok : Sound (network (nodes_in n l))) (R : R
     pub way_end : (m : List ℕ) (a b : ℕ) → OnWay N before x y m a b → a ≡ b → MarkedWay N before m x y
     way_end m a b o e = record { long = o.long; at_each = λ w. sym (or_false_r (marked m w) (between N a b w) (rw e (between_same N ok b w))) ∙ o.at_each w }
 
-    module _ (m : List ℕ) (a b ha hb p : ℕ) (o : OnWay N before x y m a b) (ia : a ≤ n) (ib : b ≤ n) (ea : ha ≡ rank t a) (eb : hb ≡ rank t b) where
-      pub turn_left : hb ≤ ha → (a ≡ b → ⊥) → p ≡ principal l a → a ≤ 127 → OnWay N before x y (set m a 1) p b
-      turn_left u d e s = record { long = length-set m a 1 ∙ o.long; at_each = λ w. step_marks a b ha hb p ia ib ea eb u d e m (omega (arith, o.long)) w ∙ o.at_each w }
+    -- the climber of larger rank goes on, to its principal parent p
+    module _ (m : List ℕ) (a b : ℕ) (i : (a ≤ n) × (b ≤ n) × OnWay N before x y m a b) {ha hb p : ℕ} (ea : ha ≡ rank t a) (eb : hb ≡ rank t b) (d : a ≡ b → ⊥) where
+      module _ (u : hb ≤ ha) (e : p ≡ principal l a) where
+        pub kept_left : a ≤ 127 → (p ≤ n) × (b ≤ n) × OnWay N before x y (set m a 1) p b
+        kept_left s = (
+          step_in a b ha hb p i.0 i.1 ea eb u d e,
+          i.1,
+          record { long = length-set m a 1 ∙ i.2.long; at_each = λ w. step_marks a b ha hb p i.0 i.1 ea eb u d e m (omega (arith, i.2.long)) w ∙ i.2.at_each w },
+        )
 
-      pub turn_right : ha < hb → (a ≡ b → ⊥) → p ≡ principal l b → b ≤ 127 → OnWay N before x y (set m b 1) a p
-      turn_right u d e s = record {
-        long = length-set m b 1 ∙ o.long;
-        at_each = λ w. ap (λ (q : Bool). marked (set m b 1) w || q) (between_sym N ok a p w)
-            ∙ step_marks b a hb ha p ib ia eb ea (omega arith) (λ q. d (sym q)) e m (omega (arith, o.long)) w
-            ∙ ap (λ (q : Bool). marked m w || q) (between_sym N ok b a w)
-            ∙ o.at_each w;
-      }
+        pub less_left : N.rank p + N.rank b < N.rank a + N.rank b
+        less_left = omega (arith, step_falls a b ha hb p i.0 i.1 ea eb u d e)
 
-  module _ (a b ha hb p : ℕ) (ia : a ≤ n) (ib : b ≤ n) (ea : ha ≡ rank t a) (eb : hb ≡ rank t b) where
-    pub in_left : hb ≤ ha → (a ≡ b → ⊥) → p ≡ principal l a → p ≤ n
-    in_left = step_in a b ha hb p ia ib ea eb
+      module _ (u : ha < hb) (e : p ≡ principal l b) where
+        pub kept_right : b ≤ 127 → (a ≤ n) × (p ≤ n) × OnWay N before x y (set m b 1) a p
+        kept_right s = (
+          i.0,
+          step_in b a hb ha p i.1 i.0 eb ea (omega arith) (λ q. d (sym q)) e,
+          record {
+            long = length-set m b 1 ∙ i.2.long;
+            at_each = λ w. ap (λ (q : Bool). marked (set m b 1) w || q) (between_sym N ok a p w)
+                ∙ step_marks b a hb ha p i.1 i.0 eb ea (omega arith) (λ q. d (sym q)) e m (omega (arith, i.2.long)) w
+                ∙ ap (λ (q : Bool). marked m w || q) (between_sym N ok b a w)
+                ∙ i.2.at_each w;
+          },
+        )
 
-    pub in_right : ha < hb → (a ≡ b → ⊥) → p ≡ principal l b → p ≤ n
-    in_right u d e = step_in b a hb ha p ib ia eb ea (omega arith) (λ q. d (sym q)) e
-
-    pub less_left : hb ≤ ha → (a ≡ b → ⊥) → p ≡ principal l a → N.rank p + N.rank b < N.rank a + N.rank b
-    less_left u d e = omega (arith, step_falls a b ha hb p ia ib ea eb u d e)
-
-    pub less_right : ha < hb → (a ≡ b → ⊥) → p ≡ principal l b → N.rank a + N.rank p < N.rank a + N.rank b
-    less_right u d e = omega (arith, step_falls b a hb ha p ib ia eb ea (omega arith) (λ q. d (sym q)) e)
+        pub less_right : N.rank a + N.rank p < N.rank a + N.rank b
+        less_right = omega (arith, step_falls b a hb ha p i.1 i.0 eb ea (omega arith) (λ q. d (sym q)) e)
 
 -- one reticulation more, and all
 some_next : (k : ℕ) (f : ℕ → Bool) → any (k + 1) f ≡ (any k f || f (k + 1))
 unfolding any
 some_next k f = rw add-one (by_bool (any k f) (λ t. rw t (by_bool (f (suc k)) (λ q. rw q) (λ q. rw q))) (λ t. rw t (by_bool (f (suc k)) (λ q. rw q) (λ q. rw q))))
+
+some_last : (k : ℕ) (f : ℕ → Bool) → 1 ≤ k → any k f ≡ (any (k - 1) f || f k)
+some_last k f l = let e : k - 1 + 1 ≡ k = omega arith in rw e at (some_next (k - 1) f)
 
 bridged_none : (N : Network) (w r : ℕ) → N.secondary r ≡ 0 → bridged N w r ≡ false
 bridged_none N w r e = plain_way N w r (λ d. absurd (d e))
@@ -176,37 +183,34 @@ module _ (n : ℕ) (l : List ℕ) where
   abbrev M : Network
   M = network (nodes_in n l)
 
-  module _ (k s : ℕ) (u : k < n) (q : s ≡ secondary l (k + 1)) where
-    second_is : s ≡ M.secondary (k + 1)
+  -- node k with the secondary parent s
+  module _ (k : ℕ) (low : 1 ≤ k) (high : k ≤ n) {s : ℕ} (q : s ≡ secondary l k) where
+    second_is : M.secondary k ≡ s
     unfolding network
-    second_is = q ∙ sym (secondary_in n l (k + 1) (omega arith) (omega arith))
-
-    pub second_none : s ≡ 0 → M.secondary (k + 1) ≡ 0
-    second_none z = sym second_is ∙ z
-
-    pub second_some : (s ≡ 0 → ⊥) → Reticulation M (k + 1)
-    second_some d z = d (second_is ∙ z)
+    second_is = secondary_in n l k low high ∙ sym q
 
     pub second_in : Sound M → s ≤ n
     unfolding network nodes_in
-    second_in ok = rw second_is (ok.in_secondary (k + 1) (record { low = omega arith; high = omega arith }))
+    second_in ok = rw (← second_is) (ok.in_secondary k (record { low = low; high = high }))
 
-  module _ (k s : ℕ) (u : k < n) (q : s ≡ secondary l (k + 1)) (before : List ℕ) (h : MarkedWays M before k) where
-    pub ways_plain : s ≡ 0 → MarkedWays M before (k + 1)
-    ways_plain z = record {
-      long = h.long;
-      at_each = λ w. h.at_each w ∙ sym (some_next k (bridged M w) ∙ or_false_r (any k (bridged M w)) (bridged M w (k + 1)) (bridged_none M w (k + 1) (second_none k s u q z)));
-    }
+    -- where the ways of the reticulations before it are marked
+    module _ (before : List ℕ) (h : MarkedWays M before (k - 1)) where
+      pub ways_plain : s ≡ 0 → MarkedWays M before k
+      ways_plain z = record {
+        long = h.long;
+        at_each = λ w. h.at_each w ∙ sym (some_last k (bridged M w) low ∙ or_false_r (any (k - 1) (bridged M w)) (bridged M w k) (bridged_none M w k (second_is ∙ z)));
+      }
 
-    pub ways_more : (after : List ℕ) → (s ≡ 0 → ⊥) → MarkedWay M before after (k + 1) s → MarkedWays M after (k + 1)
-    ways_more after d m = record {
-      long = m.long;
-      at_each = λ w. m.at_each w ∙ rw (h.at_each w, second_is k s u q, ← bridged_is M w (k + 1) (second_some k s u q d)) (sym (some_next k (bridged M w)));
-    }
+      pub ways_more : (after : List ℕ) → (s ≡ 0 → ⊥) → MarkedWay M before after k s → MarkedWays M after k
+      ways_more after d m = record {
+        long = m.long;
+        at_each = λ w. m.at_each w ∙ rw (h.at_each w, ← second_is, ← bridged_is M w k (λ z. d (sym second_is ∙ z))) (sym (some_last k (bridged M w) low));
+      }
 
-  pub ways_end : (marks : List ℕ) (v : ℕ) → Sound M → v ≤ n → n ≤ v → MarkedWays M marks v → NonTops M marks
+  -- the loop is left before its turn at v
+  pub ways_end : (marks : List ℕ) (v : ℕ) → Sound M → v ≤ n + 1 → n < v → MarkedWays M marks (v - 1) → NonTops M marks
   unfolding network nodes_in
-  ways_end marks v ok a b h = let e : v ≡ n = omega arith in
+  ways_end marks v ok a b h = let e : v - 1 ≡ n = omega arith in
       record { at_each = λ w k. ways_are M ok w k ∙ ap not (sym ((rw e at h).at_each w)) }
 
 -- going up from a node that is no top
@@ -214,22 +218,23 @@ module _ (n : ℕ) (l marks : List ℕ) (ok : Sound (network (nodes_in n l))) (t
   abbrev K : Network
   K = network (nodes_in n l)
 
-  module _ (a : ℕ) (la : 1 ≤ a) (ua : a ≤ n) where
+  module _ (v a : ℕ) (i : (1 ≤ a) × (a ≤ n) × (component K a ≡ component K v)) where
     node : Node K a
     unfolding network nodes_in
-    node = record { low = la; high = ua }
+    node = record { low = i.0; high = i.1 }
 
-    pub top_end : (v : ℕ) → component K a ≡ component K v → at marks a ≡ 0 → a ≡ component K v
+    pub top_end : at marks a ≡ 0 → a ≡ component K v
     unfolding marked
-    top_end v e z = sym (component_top K ok a (tops.at_each a node ∙ rw (is_same z))) ∙ e
+    top_end z = sym (component_top K ok a (tops.at_each a node ∙ rw (is_same z))) ∙ i.2
 
-    module _ (p : ℕ) (e : p ≡ principal l a) where
+    -- to its principal parent p
+    module _ {p : ℕ} (e : p ≡ principal l a) where
       up : p ≡ K.principal a
       unfolding network
-      up = e ∙ sym (principal_in n l a la ua)
+      up = e ∙ sym (principal_in n l a i.0 i.1)
 
       pub up_less : K.rank p < K.rank a
-      up_less = rw up (fall_principal K ok a (omega (arith, la)))
+      up_less = rw up (fall_principal K ok a (omega (arith, i.0)))
 
       module _ (d : at marks a ≡ 0 → ⊥) where
         no_top : is_top K a ≡ false
@@ -239,12 +244,6 @@ module _ (n : ℕ) (l marks : List ℕ) (ok : Sound (network (nodes_in n l))) (t
         node_up : Node K (K.principal a)
         node_up = node_principal K ok a node (λ q. clash (top_root K ok a q) no_top)
 
-        pub up_low : 1 ≤ p
-        up_low = rw up node_up.low
-
-        pub up_high : p ≤ n
+        pub up_kept : (1 ≤ p) × (p ≤ n) × (component K p ≡ component K v)
         unfolding network nodes_in
-        up_high = rw up node_up.high
-
-        pub up_same : (v : ℕ) → component K a ≡ component K v → component K p ≡ component K v
-        up_same v q = rw up (sym (component_up K ok a no_top) ∙ q)
+        up_kept = (rw up node_up.low, rw up node_up.high, rw up (sym (component_up K ok a no_top) ∙ i.2))

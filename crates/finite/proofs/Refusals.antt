@@ -27,6 +27,9 @@ module _ (r : Refusal) (rs : List Refusal) where
   pub verdict_none : r.number ≢ 0 → verdict (r ∷ rs) ≡ 0 → (r.test ≡ false) × (verdict rs ≡ 0)
   verdict_none d e = by_bool r.test (λ t. absurd (d (sym (verdict_here t) ∙ e))) (λ t. (t, sym (verdict_later t) ∙ e))
 
+-- by the first test that holds, as a function finds it that asks one after the other
+pub ruleset verdict_laws = (verdict_here, verdict_later, verdict_end)
+
 -- a refusal whose test and condition come to the same
 pub tell : (k : ℕ) {t : Bool} {P : Type 0} → (1 ≤ k) × (k < least_report) → (t ≡ true) ↔ P → Tells (record { number = k; test = t; condition = P })
 tell k l h = record { some = λ e. omega arith; small = l.1; yes = h.0; refused = h.1 }

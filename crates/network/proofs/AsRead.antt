@@ -8,9 +8,10 @@ use mathlib.Core.List.{List}
 use Prim.Native.Nat.{ℕ, ◌≤◌}
 use native.Mathlib.Omega.{arith}
 use Rattle.finite.specs.Tests.{same}
-use Rattle.finite.specs.Range.{children}
+use Rattle.finite.specs.Range.{any, children}
 use Rattle.finite.proofs.Cases.{by_eq}
 use Rattle.finite.proofs.Tests.{is_same}
+use Rattle.finite.proofs.Every.{some_same}
 use Rattle.layout.specs.Lines.{principal, secondary, stamp, nodes_in}
 use Rattle.layout.proofs.Numbered.{node_in, size_in, principal_in, secondary_in, stamp_in, principals_in}
 use Rattle.network.specs.Refusals.{bad_parents, bad_parents_at, refusal6, bad_stamps, bad_stamps_at}
@@ -23,30 +24,25 @@ stamps_same p s tp ts t up us f g = by_eq p 0
     (λ e. by_eq s 0 (λ z. rw (is_same e, is_same z)) (λ z. rw (is_same e, g z)))
     (λ d. by_eq s 0 (λ z. rw (is_same z, f d)) (λ z. rw (f d, g z)))
 
-module _ (l : List ℕ) {n : ℕ} where
-  -- of node v
-  module _ {v : ℕ} (low : 1 ≤ v) (high : v ≤ n) where
-    pub parents_read : {p s : ℕ} {r : Bool} → p ≡ principal l v → s ≡ secondary l v → r ≡ bad_parents n p s v → r ≡ bad_parents_at (nodes_in n l) v
-    unfolding bad_parents_at
-    parents_read ep es e = e ∙ rw (size_in n l, principal_in n l v low high, secondary_in n l v low high, ep, es)
+module _ (l : List ℕ) (n v : ℕ) (low : 1 ≤ v) (high : v ≤ n) (six : refusal6 (nodes_in n l) ≡ false) where
+  pub principal_low : principal l v ≤ n
+  principal_low = omega (arith, parent_in (nodes_in n l) six v (node_in n l v low high), principal_in n l v low high, size_in n l)
 
-    module _ (six : refusal6 (nodes_in n l) ≡ false) where
-      pub principal_low : principal l v ≤ n
-      principal_low = omega (arith, parent_in (nodes_in n l) six v (node_in n l v low high), principal_in n l v low high, size_in n l)
+  pub secondary_low : secondary l v ≤ n
+  secondary_low = omega (arith, other-parent-in (nodes_in n l) six v (node_in n l v low high), secondary_in n l v low high, size_in n l)
 
-      pub secondary_low : secondary l v ≤ n
-      secondary_low = omega (arith, other-parent-in (nodes_in n l) six v (node_in n l v low high), secondary_in n l v low high, size_in n l)
-
-      pub stamps_read : {p s tp ts t : ℕ} {r : Bool} → p ≡ principal l v → s ≡ secondary l v → tp ≡ stamp l p → ts ≡ stamp l s → t ≡ stamp l v → r ≡ bad_stamps p s tp ts t
-          → r ≡ bad_stamps_at (nodes_in n l) v
-      unfolding bad_stamps_at
-      stamps_read {p} {s} {tp} {ts} {t} ep es etp ets et e = e
-          ∙ stamps_same p s tp ts t ((nodes_in n l).stamp p) ((nodes_in n l).stamp s)
-          (λ d. etp ∙ sym (stamp_in n l p (omega arith) (omega (arith, principal_low, ep))))
-          (λ d. ets ∙ sym (stamp_in n l s (omega arith) (omega (arith, secondary_low, es))))
-          ∙ rw (ep, es, et, principal_in n l v low high, secondary_in n l v low high, stamp_in n l v low high)
+  pub stamps_read : bad_stamps (principal l v) (secondary l v) (stamp l (principal l v)) (stamp l (secondary l v)) (stamp l v) ≡ bad_stamps_at (nodes_in n l) v
+  unfolding bad_stamps_at
+  stamps_read = rw (principal_in n l v low high, secondary_in n l v low high, stamp_in n l v low high)
+      (stamps_same (principal l v) (secondary l v) _ _ (stamp l v) ((nodes_in n l).stamp (principal l v)) ((nodes_in n l).stamp (secondary l v))
+      (λ d. sym (stamp_in n l (principal l v) (omega arith) principal_low))
+      (λ d. sym (stamp_in n l (secondary l v) (omega arith) secondary_low)))
 
 module _ (n : ℕ) (l : List ℕ) where
-  -- the nodes without a principal parent
-  pub roots_read : {r : ℕ} → r ≡ children n (principal l) 0 → not (same r 1) ≡ not (same (children (nodes_in n l).size (nodes_in n l).principal 0) 1)
-  roots_read e = rw (principals_in n l 0, e)
+  -- the parents of each node, and the nodes without a principal one
+  pub parents_read : any n (λ v. bad_parents n (principal l v) (secondary l v) v) ≡ any n (bad_parents_at (nodes_in n l))
+  unfolding bad_parents_at
+  parents_read = some_same n _ _ (λ v a b. rw (size_in n l, principal_in n l v a b, secondary_in n l v a b))
+
+  pub roots_read : children (nodes_in n l).size (nodes_in n l).principal 0 ≡ children n (principal l) 0
+  roots_read = principals_in n l 0

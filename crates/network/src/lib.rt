@@ -1,35 +1,29 @@
-// The verdict on a species network: refusals 6 to 10, on the lines of the sheet. Each refusal that does not apply hands on to the next.
+// The verdict on a species network: refusals 6 to 10, on the lines of the sheet.
 #![tactic(auto)]
 
 mod parents;
 
-ghost use Rattle.std.specs.Prelude.{◌≡◌, false, ◌≤◌};
+ghost use Rattle.std.specs.Prelude.{◌≡◌, ◌≤◌};
 ghost use Rattle.finite.specs.Refusals.{verdict};
 ghost use Rattle.layout.specs.Lines.{nodes_in};
-ghost use Rattle.network.specs.Refusals.{refusal6, after_six, network_refusals};
+ghost use Rattle.refusals.specs.Numbers.{refused};
+ghost use Rattle.network.specs.Refusals.{network_refusals};
 
 use layout::lines::Lines;
 use parents::{seven, six};
+use refusals::Refusal;
 
-// 7 reads the stamps of the parents: 6 has passed, so they are nodes.
-fn after_six(n: usize, lines: &Lines) -> u32
-    requires limits { n ≤ 127 }
-    requires parents { refusal6 (nodes_in n lines.now) ≡ false }
-    ensures { result ≡ verdict (after_six (nodes_in n lines.now)) }
-{
-    if seven(n, lines) {
-        return 7;
-    }
-    shapes::verdict(n, lines)
-}
-
-// The first refusal of 6 to 10 that applies, or 0.
-pub fn verdict(n: usize, lines: &Lines) -> u32
+// The first refusal of 6 to 10 that applies. 7 reads the stamps of the parents: 6 has passed, so they are nodes.
+#[tactic(auto, using(finite::proofs::Refusals::verdict_laws), unfolding(crate::specs::Refusals::network_refusals, crate::specs::Refusals::after_six))]
+pub fn verdict(n: usize, lines: &Lines) -> Result<(), Refusal>
     requires { n ≤ 127 }
-    ensures { result ≡ verdict (network_refusals (nodes_in n lines.now)) }
+    ensures { refused result ≡ verdict (network_refusals (nodes_in n lines.now)) }
 {
     if six(n, lines) {
-        return 6;
+        return Err(Refusal::BadParents);
     }
-    after_six(n, lines)
+    if seven(n, lines) {
+        return Err(Refusal::BadStamps);
+    }
+    shapes::verdict(n, lines)
 }

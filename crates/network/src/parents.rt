@@ -9,25 +9,11 @@ use layout::lines::{Lines, principal, secondary, stamp};
 use text_lines::FIELDS;
 
 // 6: of one node.
+#[tactic(auto, unfolding(crate::specs::Refusals::bad_parents, finite::specs::Tests::same, finite::specs::Tests::under))]
 fn bad_parents(n: usize, p: usize, s: usize, v: usize) -> bool
     ensures { result ≡ bad_parents n p s v }
 {
-    if n < p {
-        return true;
-    }
-    if n < s {
-        return true;
-    }
-    if p == v {
-        return true;
-    }
-    if s == v {
-        return true;
-    }
-    if p == 0 {
-        return s != 0;
-    }
-    false
+    n < p || n < s || p == v || s == v || (p == 0 && s != 0)
 }
 
 // Whether some node has bad parents.
@@ -35,44 +21,28 @@ fn some_bad_parents(n: usize, lines: &Lines) -> bool
     requires { n ≤ 127 }
     ensures { result ≡ any n (bad_parents_at (nodes_in n lines.now)) }
 {
-    let mut v: usize = 0;
-    while v < n {
-        let w = v + 1;
-        if bad_parents(n, principal(lines, w), secondary(lines, w), w) {
-            return true;
-        }
-        v = w;
-    }
-    false
+    (1..=n).any(|v| bad_parents(n, principal(lines, v), secondary(lines, v), v))
 }
 
 // 6.
+#[tactic(auto, using(crate::proofs::AsRead::roots_read), unfolding(crate::specs::Refusals::refusal6, layout::specs::Lines::nodes_in, finite::specs::Tests::same))]
 pub fn six(n: usize, lines: &Lines) -> bool
     requires { n ≤ 127 }
     ensures { result ≡ refusal6 (nodes_in n lines.now) }
 {
-    if some_bad_parents(n, lines) {
-        return true;
-    }
-    tables::count_of(n, lines, lines::PRINCIPAL, FIELDS, 0) != 1
+    some_bad_parents(n, lines) || tables::count_of(n, lines, lines::PRINCIPAL, FIELDS, 0) != 1
 }
 
 // 7: of one node.
+#[tactic(auto, unfolding(crate::specs::Refusals::bad_stamps, finite::specs::Tests::same, finite::specs::Tests::under))]
 fn bad_stamps(p: usize, s: usize, tp: usize, ts: usize, t: usize) -> bool
     ensures { result ≡ bad_stamps p s tp ts t }
 {
-    if p != 0 {
-        if tp >= t {
-            return true;
-        }
-    }
-    if s == 0 {
-        return false;
-    }
-    ts != t
+    (p != 0 && tp >= t) || (s != 0 && ts != t)
 }
 
 // The parents are nodes: 6 has passed.
+#[tactic(auto, using(crate::proofs::AsRead::principal_low, crate::proofs::AsRead::secondary_low, crate::proofs::AsRead::stamps_read))]
 fn bad_stamps_at(n: usize, lines: &Lines, v: usize) -> bool
     requires limits { (n ≤ 127) × (1 ≤ v) × (v ≤ n) }
     requires parents { refusal6 (nodes_in n lines.now) ≡ false }
@@ -89,12 +59,5 @@ pub fn seven(n: usize, lines: &Lines) -> bool
     requires parents { refusal6 (nodes_in n lines.now) ≡ false }
     ensures { result ≡ refusal7 (nodes_in n lines.now) }
 {
-    let mut v: usize = 0;
-    while v < n {
-        if bad_stamps_at(n, lines, v + 1) {
-            return true;
-        }
-        v += 1;
-    }
-    false
+    (1..=n).any(|v| bad_stamps_at(n, lines, v))
 }

@@ -1,43 +1,34 @@
-// The verdict on what the nodes of a species network are: refusals 8, 9 and 10, on the lines of the sheet. Each refusal that does not apply hands on to
-// the next.
+// The verdict on what the nodes of a species network are: refusals 8, 9 and 10, on the lines of the sheet.
 #![tactic(auto)]
 
 mod counts;
-mod refusals;
+mod nodes;
 
 ghost use Rattle.std.specs.Prelude.{◌≡◌, ◌≤◌};
 ghost use Rattle.finite.specs.Refusals.{verdict};
 ghost use Rattle.layout.specs.Lines.{nodes_in};
-ghost use Rattle.shapes.specs.Refusals.{after_eight, shape_refusals};
-ghost use Rattle.shapes.specs.inner.Counts.{Counts};
+ghost use Rattle.refusals.specs.Numbers.{refused};
+ghost use Rattle.shapes.specs.Refusals.{shape_refusals};
 
 use layout::lines::Lines;
-use refusals::{eight, nine, ten};
-use tables::Table;
+use nodes::Shapes;
+use refusals::Refusal;
 
-fn after_eight(n: usize, lines: &Lines, counts: &Table) -> u32
-    requires limits { n ≤ 127 }
-    requires counts { Counts (nodes_in n lines.now) counts.now }
-    ensures { result ≡ verdict (after_eight (nodes_in n lines.now)) }
-{
-    if nine(n, lines, counts) {
-        return 9;
-    }
-    if ten(n, counts) {
-        return 10;
-    }
-    0
-}
-
-// The first refusal of 8, 9 and 10 that applies, or 0.
-pub fn verdict(n: usize, lines: &Lines) -> u32
+// The first refusal of 8, 9 and 10 that applies.
+#[tactic(auto, using(finite::proofs::Refusals::verdict_laws), unfolding(crate::specs::Refusals::shape_refusals, crate::specs::Refusals::after_eight))]
+pub fn verdict(n: usize, lines: &Lines) -> Result<(), Refusal>
     requires { n ≤ 127 }
-    ensures { result ≡ verdict (shape_refusals (nodes_in n lines.now)) }
+    ensures { refused result ≡ verdict (shape_refusals (nodes_in n lines.now)) }
 {
-    let mut counts = [0u32; 512];
-    counts::fill(n, lines, &mut counts);
-    if eight(n, lines, &counts) {
-        return 8;
+    let shapes = Shapes::new(n, lines);
+    if shapes.eight() {
+        return Err(Refusal::BadShape);
     }
-    after_eight(n, lines, &counts)
+    if shapes.nine() {
+        return Err(Refusal::BadSpecies);
+    }
+    if shapes.ten() {
+        return Err(Refusal::OnlyReticulations);
+    }
+    Ok(())
 }

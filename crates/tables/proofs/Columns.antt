@@ -1,7 +1,7 @@
 -- The laws of tables of columns: what a write changes and keeps, what a filled column holds, and the turns of a loop that fills one. Two places of a
 -- table are the same only in the same row of the same column, since a column has 128 rows.
 -- Assumes nothing.
-use Prim.Native.Nat.{ℕ, zero, suc, ◌+◌, ◌*◌, ◌/◌, ◌%◌, ◌≤◌, ◌<◌}
+use Prim.Native.Nat.{ℕ, zero, suc, ◌+◌, ◌-◌, ◌*◌, ◌/◌, ◌%◌, ◌≤◌, ◌<◌}
 use mathlib.Core.Path.{◌≡◌, refl, sym, ◌∙◌, fun_ext}
 use mathlib.Core.Logic.{◌≢◌}
 use mathlib.Core.List.{List}
@@ -139,6 +139,14 @@ column_more k n t s r f x e q w = w ∙ rw (e, q, add-one)
 
 pub column_end : (k n v : ℕ) (t s : List ℕ) (f : ℕ → ℕ) → v ≤ n → n ≤ v → s ≡ column k v t f → s ≡ column k n t f
 column_end k n v t s f a b q = let e : v ≡ n = omega arith in rw e at q
+
+-- the turn at v of a loop over 1..=n, after which the rows up to u are filled, and its end
+pub column_turn : (k v u : ℕ) (t s r : List ℕ) (f : ℕ → ℕ) (x : ℕ) → 1 ≤ v → u ≡ v → s ≡ column k (v - 1) t f → x ≡ f v → r ≡ written s k v x → r ≡ column k u t f
+column_turn k v u t s r f x l e q ex er = let e₁ : v - 1 + 1 ≡ v = omega arith in
+    rw e (rw e₁ at (column_more k (v - 1) t s r f x q (rw e₁ ex) (rw e₁ er)))
+
+pub column_done : (k n v : ℕ) (t s : List ℕ) (f : ℕ → ℕ) → v ≤ n + 1 → n < v → s ≡ column k (v - 1) t f → s ≡ column k n t f
+column_done k n v t s f a b q = column_end k n (v - 1) t s f (omega arith) (omega arith) q
 
 -- four columns of zeros
 pub blank_clear : (k : ℕ) → k < 4 → Clear k blank

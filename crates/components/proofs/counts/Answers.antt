@@ -1,7 +1,11 @@
 -- The goals of `counts` that are left: see Invariants.antt for the idea.
+use Prim.Native.Nat.{◌-◌}
+use native.Mathlib.Omega.{arith}
 use Rattle.components.proofs.Filling.{parted_done}
-use borrow.Author.Rules.{rules}
 use Rattle.components.proofs.counts.Goals as goal
 
 pub returns : goal.returns
-returns c = parted_done _ _ c.requires.0 _ _ c.requires.1 c.loop-v.invariant.0 (search rules) c.loop-v.invariant.1
+returns c = parted_done _ _ c.requires.0 _ (c.loop-v.v - 1) c.requires.1 (omega arith) (omega arith) c.loop-v.invariant.1
+
+pub returns-2 : goal.returns-2
+returns-2 c = parted_done _ _ c.requires.0 _ c.loop-v.v c.requires.1 (omega arith) (omega arith) c.count_node.ensures

@@ -1,6 +1,6 @@
 -- `components::ranks` meets its contract. The invariant: the rows passed are filled.
 -- Assumes nothing.
-use Prim.Native.Nat.{◌-◌, ◌≤◌}
+use Prim.Native.Nat.{◌+◌, ◌-◌, ◌≤◌}
 use mathlib.Core.Path.{◌≡◌}
 use Rattle.tables.specs.Columns.{column}
 use Rattle.layout.specs.inner.Parts.{rank_column}
@@ -8,7 +8,4 @@ use Rattle.components.specs.inner.Filling.{rank_at}
 use Rattle.components.proofs.ranks.Given as goal
 
 abbrev pub invariant-loop-v : goal.invariant-loop-v
-invariant-loop-v l = (l.v ≤ l.n) × (l.parts ≡ column rank_column l.v l.initial.parts (rank_at l.lines))
-
-abbrev pub decreases-loop-v : goal.decreases-loop-v
-decreases-loop-v l = l.n - l.v
+invariant-loop-v l = (l.v ≤ l.n + 1) × (l.parts ≡ column rank_column (l.v - 1) l.initial.parts (rank_at l.lines))

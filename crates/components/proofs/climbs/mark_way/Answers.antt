@@ -1,5 +1,5 @@
 -- The goals of `mark_way` that are left: see Invariants.antt for the idea.
-use Rattle.components.proofs.Ways.{way_start, way_end, turn_left, turn_right, in_left, in_right, less_left, less_right}
+use Rattle.components.proofs.Ways.{way_start, way_end, kept_left, kept_right, less_left, less_right}
 use borrow.Author.Rules.{rules}
 use Rattle.components.proofs.climbs.mark_way.Goals as goal
 
@@ -8,43 +8,19 @@ loop-a-init c = let s = c.requires in (s.limits.1, s.limits.2, way_start _ _ _ s
 
 pub loop-a-preserved-then-rank : goal.loop-a-preserved-then-rank
 loop-a-preserved-then-rank c = let s = c.requires.sound in
-    let i = c.loop-a.invariant in
-    let d = c.loop-a-test.true in
-    let ra = c.rank.ensures in
-    let rb = c.rank-in-loop-a.ensures in
-    let u = c.if-rank.true in
-    let p = c.principal-b.ensures in
-    (i.0, in_right _ _ _ s.0 s.1 _ _ _ _ _ i.0 i.1 ra rb u d p, turn_right _ _ _ s.0 s.1 _ _ _ _ _ _ _ _ _ i.2 i.0 i.1 ra rb u d p (search rules))
+    kept_right _ _ _ s.0 s.1 _ _ _ _ _ _ c.loop-a.invariant c.rank.ensures c.rank-in-loop-a.ensures c.loop-a-test.true c.if-rank.true c.principal-b.ensures (search rules)
 
 pub loop-a-smaller-then-rank : goal.loop-a-smaller-then-rank
 loop-a-smaller-then-rank c = let s = c.requires.sound in
-    let i = c.loop-a.invariant in
-    let d = c.loop-a-test.true in
-    let ra = c.rank.ensures in
-    let rb = c.rank-in-loop-a.ensures in
-    let u = c.if-rank.true in
-    let p = c.principal-b.ensures in
-    less_right _ _ _ s.0 s.1 _ _ _ _ _ i.0 i.1 ra rb u d p
+    less_right _ _ _ s.0 s.1 _ _ _ _ _ _ c.loop-a.invariant c.rank.ensures c.rank-in-loop-a.ensures c.loop-a-test.true c.if-rank.true c.principal-b.ensures
 
 pub loop-a-preserved : goal.loop-a-preserved
 loop-a-preserved c = let s = c.requires.sound in
-    let i = c.loop-a.invariant in
-    let d = c.loop-a-test.true in
-    let ra = c.rank.ensures in
-    let rb = c.rank-in-loop-a.ensures in
-    let u = c.if-rank.false in
-    let p = c.principal-a.ensures in
-    (in_left _ _ _ s.0 s.1 _ _ _ _ _ i.0 i.1 ra rb u d p, i.1, turn_left _ _ _ s.0 s.1 _ _ _ _ _ _ _ _ _ i.2 i.0 i.1 ra rb u d p (search rules))
+    kept_left _ _ _ s.0 s.1 _ _ _ _ _ _ c.loop-a.invariant c.rank.ensures c.rank-in-loop-a.ensures c.loop-a-test.true c.if-rank.false c.principal-a.ensures (search rules)
 
 pub loop-a-smaller : goal.loop-a-smaller
 loop-a-smaller c = let s = c.requires.sound in
-    let i = c.loop-a.invariant in
-    let d = c.loop-a-test.true in
-    let ra = c.rank.ensures in
-    let rb = c.rank-in-loop-a.ensures in
-    let u = c.if-rank.false in
-    let p = c.principal-a.ensures in
-    less_left _ _ _ s.0 s.1 _ _ _ _ _ i.0 i.1 ra rb u d p
+    less_left _ _ _ s.0 s.1 _ _ _ _ _ _ c.loop-a.invariant c.rank.ensures c.rank-in-loop-a.ensures c.loop-a-test.true c.if-rank.false c.principal-a.ensures
 
 pub returns : goal.returns
 returns c = let s = c.requires.sound in way_end _ _ _ s.0 s.1 _ _ _ _ _ _ c.loop-a.invariant.2 (search rules)

@@ -1,20 +1,11 @@
--- The goals of `seven` that are left: see Invariants.antt for the idea.
-use Rattle.finite.proofs.Every.{some_loop}
+-- One node after the other.
+-- Assumes nothing.
+use borrow.Author.Rules.{rules}
+use Rattle.finite.proofs.Upto.{any_upto}
 use Rattle.layout.specs.Lines.{nodes_in}
 use Rattle.network.specs.Refusals.{refusal7}
-use borrow.Author.Rules.{rules}
 use Rattle.network.proofs.parents.seven.Goals as goal
-
-pub loop-v-init : goal.loop-v-init
-loop-v-init c = search (rules, some_loop)
-
-pub returns-then-bad_stamps_at : goal.returns-then-bad_stamps_at
-unfolding refusal7 nodes_in
-returns-then-bad_stamps_at c = search (rules, some_loop)
-
-pub loop-v-preserved : goal.loop-v-preserved
-loop-v-preserved c = search (rules, some_loop)
 
 pub returns : goal.returns
 unfolding refusal7 nodes_in
-returns c = search (rules, some_loop)
+returns c = any_upto _ _ c.any.ensures.ran c.new.ensures.start c.new.ensures.end c.new.ensures.exhausted (λ x b q k. search rules)

@@ -1,29 +1,22 @@
 -- The goals of `plain_counts` that are left: see Invariants.antt for the idea.
-use mathlib.Core.Path.{◌∙◌}
-use Rattle.tables.proofs.Columns.{kept_none}
-use Rattle.tables.proofs.Counts.{counted_start, counted_turn, counted_few, counted_done, kept_raised}
+use Rattle.std.proofs.Common.{◌-◌, refl, arith}
+use Rattle.tables.proofs.Passes.{counted_start, counted_turn, counted_few, counted_done}
 use Rattle.shapes.proofs.AsRead.{plain_read}
-use borrow.Author.Rules.{rules}
-use native.Mathlib.Omega.{arith}
+use Rattle.shapes.proofs.counts.plain_counts.Goals.{else-loop-v-test, then-loop-v-test+else-v-n}
 use Rattle.shapes.proofs.counts.plain_counts.Goals as goal
 
 pub loop-v-init : goal.loop-v-init
-loop-v-init c = (search rules, counted_start _ _ _ c.requires.0 (omega arith) _ c.requires.1, kept_none _ _)
+loop-v-init c = counted_start _ _ c.requires.0 _ c.requires.1
 
 pub count_at-requires : goal.count_at-requires
-count_at-requires c = let s = c.requires in
-    let i = c.loop-v.invariant in
-    (search rules, search rules, counted_few _ _ _ s.0 (omega arith) _ _ _ i.0 i.1)
+count_at-requires c = (c.requires.0, counted_few _ _ c.requires.0 (c.loop-v.v - 1) _ _ (omega arith) c.loop-v.invariant)
 
 pub loop-v-preserved : goal.loop-v-preserved
-loop-v-preserved c = let s = c.requires in
-    let i = c.loop-v.invariant in
-    let plain-parent-is = c.plain_parent.ensures in
-    let count-at-is = c.count_at.ensures in
-    (search rules, counted_turn _ _ _ s.0 (omega arith) _ _ _ _ (plain_read _ (search rules) (search rules) plain-parent-is) count-at-is i.1, kept_raised _ _ _ _ _ _ s.0 count-at-is i.2)
+loop-v-preserved c = counted_turn _ _ c.requires.0 c.loop-v.v _ _ _ _ c.loop-v.auto.v (omega arith) (plain_read _ _ _ c.loop-v.auto.v (omega arith) c.plain_parent.ensures) c.count_at.ensures c.loop-v.invariant
 
 pub returns : goal.returns
-returns c = let s = c.requires in
-    let i = c.loop-v.invariant in
-    let put_is = c.put.ensures in
-    put_is ∙ counted_done _ _ _ s.0 (omega arith) _ _ _ i.0 (search rules) s.1 i.2 i.1
+returns c = elim c.loop-v-test.branch [
+  | else-loop-v-test w ↦ rw w.plains-is (counted_done _ _ c.requires.0 (c.loop-v.v - 1) _ (λ l. absurd (omega (arith, c.loop-v.auto.v-end l))) c.loop-v.invariant)
+  | then-loop-v-test+else-v-n w ↦ rw w.plains-is (counted_done _ _ c.requires.0 c.loop-v.v _ (λ _. omega arith)
+      (counted_turn _ _ c.requires.0 c.loop-v.v _ _ _ _ c.loop-v.auto.v refl (plain_read _ _ _ c.loop-v.auto.v (omega arith) w.plain_parent.ensures) w.count_at.ensures c.loop-v.invariant))
+]
