@@ -25,13 +25,23 @@ pub record Counted (n : ℕ) (f : ℕ → ℕ) (k w : ℕ) (out : List ℕ) : Ty
   pub small : (v : ℕ) → entry out k v ≤ w
 
 -- the row of a parent is one of 0 to n
-inside_high : (n p : ℕ) → inside n p ≤ n
+pub inside_high : (n p : ℕ) → inside n p ≤ n
 inside_high n p = by_less n p (λ h. omega (arith, inside_out n p h)) (λ h. omega (arith, inside_in n p h))
 
 pub kept_raised : (n k p : ℕ) (start out r : List ℕ) → n ≤ 127 → r ≡ raised n out k p → Kept k start out → Kept k start r
 unfolding raised
 kept_raised n k p start out r few e o = rw e (kept_then k start out (written out k (inside n p) (entry out k (inside n p) + 1)) o
     (kept_write k (inside n p) (entry out k (inside n p) + 1) out (omega (arith, inside_high n p))))
+
+-- a number counts the next child if it is its parent
+module _ (f : ℕ → ℕ) where
+  pub hit : (w v : ℕ) → f (w + 1) ≡ v → children w f v + 1 ≡ children (w + 1) f v
+  unfolding children
+  hit w v e = count_turn (λ x. same (f x) v) w _ 1 refl (rw (is_same e))
+
+  pub miss : (w v : ℕ) → f (w + 1) ≢ v → children w f v ≡ children (w + 1) f v
+  unfolding children
+  miss w v d = omega (arith, count_turn (λ x. same (f x) v) w _ 0 refl (rw (not_same d)))
 
 module _ (n : ℕ) (f : ℕ → ℕ) (k : ℕ) (few : n ≤ 127) (lk : k < 4) where
   pub counted_start : (out : List ℕ) → Clear k out → Counted n f k 0 out
@@ -43,21 +53,13 @@ module _ (n : ℕ) (f : ℕ → ℕ) (k : ℕ) (few : n ≤ 127) (lk : k < 4) wh
     small = λ v. omega (arith, c.none v);
   }
 
-  hit : (w v : ℕ) → f (w + 1) ≡ v → children w f v + 1 ≡ children (w + 1) f v
-  unfolding children
-  hit w v e = count_turn (λ x. same (f x) v) w _ 1 refl (rw (is_same e))
-
-  miss : (w v : ℕ) → f (w + 1) ≢ v → children w f v ≡ children (w + 1) f v
-  unfolding children
-  miss w v d = omega (arith, count_turn (λ x. same (f x) v) w _ 0 refl (rw (not_same d)))
-
   pub counted_turn : (w p : ℕ) (out r : List ℕ) → p ≡ f (w + 1) → r ≡ raised n out k p → Counted n f k w out → Counted n f k (w + 1) r
   unfolding raised
   counted_turn w p out r ep er s = rw er (record {
     long = long out k q (x + 1) lq ∙ s.long;
     within = λ v l u. by_eq v q
-        (λ e. rw e (here ∙ ap (λ (y : ℕ). y + 1) (s.within q (rw e at l) (rw e at u)) ∙ hit w q (sym ep ∙ sym (taken (rw e at l)))))
-        (λ d. there v d ∙ s.within v l u ∙ miss w v (λ e. d (passed v u (sym e ∙ sym ep))));
+        (λ e. rw e (here ∙ ap (λ (y : ℕ). y + 1) (s.within q (rw e at l) (rw e at u)) ∙ hit f w q (sym ep ∙ sym (taken (rw e at l)))))
+        (λ d. there v d ∙ s.within v l u ∙ miss f w v (λ e. d (passed v u (sym e ∙ sym ep))));
     past = λ v l. there v (λ e. omega (arith, inside_high n p)) ∙ s.past v l;
     small = λ v. by_eq v q (λ e. rw e (omega (arith, here, s.small q))) (λ d. omega (arith, there v d, s.small v));
   })

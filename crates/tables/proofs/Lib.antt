@@ -1,3 +1,4 @@
 pub mod Columns
 pub mod Nexts
 pub mod Counts
+pub mod Passes

@@ -53,15 +53,30 @@ pub ruleset slots = (inside_out, inside_in, after_no, after_yes)
 abbrev pub lowest : ℕ → (ℕ → Bool) → ℕ → ℕ
 lowest n f w = first n (λ x. under w x && f x)
 
-lowest_yes : (n w : ℕ) (f : ℕ → Bool) → 1 ≤ w → w ≤ n → f w ≡ true → w ≡ lowest n f (w - 1)
+pub lowest_yes : (n w : ℕ) (f : ℕ → Bool) → 1 ≤ w → w ≤ n → f w ≡ true → w ≡ lowest n f (w - 1)
 lowest_yes n w f l u t = sym (first_only n w (λ x. under (w - 1) x && f x) l u (and_yes (under (w - 1) w) (f w) (is_under (omega arith)) t)
     (λ x a b. and_no_l (under (w - 1) x) (f x) (not_under (omega arith))))
 
-lowest_no : (n w : ℕ) (f : ℕ → Bool) → 1 ≤ w → f w ≡ false → lowest n f w ≡ lowest n f (w - 1)
+pub lowest_no : (n w : ℕ) (f : ℕ → Bool) → 1 ≤ w → f w ≡ false → lowest n f w ≡ lowest n f (w - 1)
 lowest_no n w f l t = first_same n (λ x. under w x && f x) (λ x. under (w - 1) x && f x) (λ x a b. by_order x w
     (λ h. and_no_l (under w x) (f x) (not_under (omega arith)) ∙ sym (and_no_l (under (w - 1) x) (f x) (not_under (omega arith))))
     (λ h. rw h (and_no_r (under w w) (f w) t ∙ sym (and_no_r (under (w - 1) w) (f w) t)))
     (λ h. rw (is_under h, is_under {m = w - 1} {n = x} (omega arith))))
+
+module _ (n : ℕ) (f after : ℕ → ℕ) where
+  -- what is written at 1..n is a child of it above its entry, and it is noted nowhere else
+  pub noted_here : (w p q : ℕ) → p ≡ f w → q ≡ inside_after n after p w → 1 ≤ q → is_next f (after q) q w ≡ true
+  unfolding is_next
+  noted_here w p q ep eq l =
+      let r = slot_is n after p w q eq l in
+      let e = r.0 in
+      rw e (and_yes (under (after p) w) (same (f w) p) (is_under r.1) (is_same (sym ep)))
+
+  pub noted_not : (w p q : ℕ) → p ≡ f w → q ≡ inside_after n after p w → (v : ℕ) → v ≤ n → v ≢ q → is_next f (after v) v w ≡ false
+  unfolding is_next
+  noted_not w p q ep eq v u d = by_eq (f w) v
+      (λ e. and_no_l (under (after v) w) (same (f w) v) (not_under (slot_not n after p w q eq v u (sym (ep ∙ e)) d)))
+      (λ e. and_no_r (under (after v) w) (same (f w) v) (not_same e))
 
 -- the rows 1..n of column k after the children above w; row 0 may hold anything
 pub record Noted (n : ℕ) (f after : ℕ → ℕ) (k w : ℕ) (out : List ℕ) : Type 0 where
@@ -77,20 +92,6 @@ module _ (n : ℕ) (f after : ℕ → ℕ) (k : ℕ) (few : n ≤ 127) (lk : k <
     past = λ v l. c.none v;
   }
 
-  -- what is written at 1..n is a child of it above its entry, and it is noted nowhere else
-  noted_here : (w p q : ℕ) → p ≡ f w → q ≡ inside_after n after p w → 1 ≤ q → is_next f (after q) q w ≡ true
-  unfolding is_next
-  noted_here w p q ep eq l =
-      let r = slot_is n after p w q eq l in
-      let e = r.0 in
-      rw e (and_yes (under (after p) w) (same (f w) p) (is_under r.1) (is_same (sym ep)))
-
-  noted_not : (w p q : ℕ) → p ≡ f w → q ≡ inside_after n after p w → (v : ℕ) → v ≤ n → v ≢ q → is_next f (after v) v w ≡ false
-  unfolding is_next
-  noted_not w p q ep eq v u d = by_eq (f w) v
-      (λ e. and_no_l (under (after v) w) (same (f w) v) (not_under (slot_not n after p w q eq v u (sym (ep ∙ e)) d)))
-      (λ e. and_no_r (under (after v) w) (same (f w) v) (not_same e))
-
   pub noted_turn : (w p q : ℕ) (out : List ℕ) → 1 ≤ w → w ≤ n → p ≡ f w → q ≡ inside_after n after p w → q ≤ n → Noted n f after k w out
       → Noted n f after k (w - 1) (written out k q w)
   noted_turn w p q out lw uw ep eq uq s =
@@ -98,8 +99,8 @@ module _ (n : ℕ) (f after : ℕ → ℕ) (k : ℕ) (few : n ≤ 127) (lk : k <
       record {
         long = long out k q w lq ∙ s.long;
         within = λ v l u. by_eq v q
-            (λ e. rw e (write_here out k q w lq (omega (arith, s.long)) ∙ lowest_yes n w (is_next f (after q) q) lw uw (noted_here w p q ep eq (rw e at l))))
-            (λ d. write_row out k q w lq k v d ∙ s.within v l u ∙ lowest_no n w (is_next f (after v) v) lw (noted_not w p q ep eq v u d));
+            (λ e. rw e (write_here out k q w lq (omega (arith, s.long)) ∙ lowest_yes n w (is_next f (after q) q) lw uw (noted_here n f after w p q ep eq (rw e at l))))
+            (λ d. write_row out k q w lq k v d ∙ s.within v l u ∙ lowest_no n w (is_next f (after v) v) lw (noted_not n f after w p q ep eq v u d));
         past = λ v l. write_row out k q w lq k v (λ e. omega arith) ∙ s.past v l;
       }
 

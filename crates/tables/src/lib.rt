@@ -8,6 +8,8 @@ ghost use Rattle.finite.specs.Range.{children};
 ghost use Rattle.tables.specs.Columns.{entry, written, column, spaced, Clear};
 ghost use Rattle.tables.specs.Children.{next, inside, inside_after, raised};
 
+pub mod column;
+
 // Four columns of 128 numbers.
 pub type Table = [u32; 512];
 

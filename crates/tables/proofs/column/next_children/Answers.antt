@@ -1,0 +1,13 @@
+-- The goals of `next_children` that are left: see Invariants.antt for the idea.
+use Rattle.std.proofs.Common.{arith}
+use Rattle.tables.proofs.Passes.{noted_start, noted_turn, noted_done}
+use Rattle.tables.proofs.column.next_children.Goals as goal
+
+pub loop-w-init : goal.loop-w-init
+loop-w-init c = noted_start _ _ _ c.requires.0 _ c.requires.2
+
+pub loop-w-preserved : goal.loop-w-preserved
+loop-w-preserved c = let q = c.slot_after-q.ensures in noted_turn _ _ _ c.requires.0 _ _ _ _ (omega arith) c.loop-w.auto.w c.spaced.ensures q.0 q.1 c.loop-w.invariant
+
+pub returns : goal.returns
+returns c = noted_done _ _ _ c.requires.0 _ _ (omega arith) c.loop-w.invariant
