@@ -11,9 +11,8 @@ ghost use Rattle.arcs.specs.inner.Arcs.{network_in, Laid};
 ghost use Rattle.arcs.specs.inner.Walks.{place, Walked, Due, Visited};
 
 use layout::lines;
-use layout::lines::Lines;
-use tables::column;
-use tables::column::Column;
+use layout::lines::{Lines, PRINCIPAL, SECONDARY};
+use tables::column::{Column, next_children};
 use text_lines::FIELDS;
 
 #[derive(Clone, Copy)]
@@ -92,15 +91,8 @@ pub fn lay(n: usize, lines: &Lines) -> Arcs
         second: zeros,
         other: zeros,
     };
-    column::next_children(n, lines, lines::PRINCIPAL, FIELDS, &zeros, &mut arcs.first);
-    column::next_children(
-        n,
-        lines,
-        lines::PRINCIPAL,
-        FIELDS,
-        &arcs.first,
-        &mut arcs.second,
-    );
-    column::next_children(n, lines, lines::SECONDARY, FIELDS, &zeros, &mut arcs.other);
+    next_children(n, lines, PRINCIPAL, FIELDS, &zeros, &mut arcs.first);
+    next_children(n, lines, PRINCIPAL, FIELDS, &arcs.first, &mut arcs.second);
+    next_children(n, lines, SECONDARY, FIELDS, &zeros, &mut arcs.other);
     arcs
 }
