@@ -7,7 +7,7 @@ ghost use Rattle.finite.specs.Tables.{at};
 ghost use Rattle.topology.specs.Networks.{Network, Sound};
 ghost use Rattle.layout.specs.Lines.{nodes_in};
 ghost use Rattle.histories.specs.inner.Grades.{Order};
-ghost use Rattle.arcs.specs.inner.Arcs.{network_in, Laid};
+ghost use Rattle.arcs.specs.inner.Arcs.{leaving, leaving_in, network_in, Laid};
 ghost use Rattle.arcs.specs.inner.Walks.{place, Walked, Due, Visited};
 
 use layout::lines;
@@ -22,6 +22,37 @@ pub struct Arcs {
     pub first: Column,
     pub second: Column,
     pub other: Column,
+}
+
+// The arcs out of a node, by the nodes that they lead to: none, at a leaf of a species; one principal; two principal; a principal and a secondary one.
+#[derive(Clone, Copy)]
+pub enum Out {
+    Leaf(usize),
+    One(usize),
+    Two(usize, usize),
+    Mixed(usize, usize),
+}
+
+impl Arcs {
+    // The arcs out of node v.
+    pub fn out(&self, lines: &Lines, v: usize) -> Out
+        requires { v ≤ 127 }
+        ensures { leaving result ≡ leaving_in lines.now self.now v }
+    {
+        let x = self.first[v] as usize;
+        if x == 0 {
+            return Out::Leaf(lines::node_species(lines, v));
+        }
+        let y = self.second[v] as usize;
+        if y != 0 {
+            return Out::Two(x, y);
+        }
+        let z = self.other[v] as usize;
+        if z != 0 {
+            return Out::Mixed(x, z);
+        }
+        Out::One(x)
+    }
 }
 
 // The walk that puts the nodes in order: who stands at each place, how many stand, and where each node stands, 0 for not yet.

@@ -4,10 +4,13 @@ use Rattle.std.specs.Prelude.{◌≡◌, List, ℕ, ◌≤◌}
 use Rattle.finite.specs.Tables.{at}
 use Rattle.topology.specs.Networks.{Network}
 use Rattle.topology.specs.Lines.{NodeLines, network}
-use Rattle.layout.specs.Lines.{nodes_in}
-use Rattle.histories.specs.Families.{first_child, second_child, other_child}
+use Rattle.layout.specs.Lines.{nodes_in, node_species}
+use Rattle.histories.specs.Histories.{Out as Leaving, leaf, one, two, mixed}
+use Rattle.histories.specs.Families.{out_by, first_child, second_child, other_child}
 use Rattle.histories.specs.inner.Grades.{Order}
 use Rattle.arcs.specs.declared.Arcs.{Arcs}
+use Rattle.arcs.specs.declared.Out.{Out}
+use Rattle.arcs.specs.declared.Out.TheVariants.{Leaf, One, Two, Mixed}
 
 abbrev pub order : Arcs → ℕ → ℕ
 order a = at a.order
@@ -20,6 +23,17 @@ second a = at a.second
 
 abbrev pub other : Arcs → ℕ → ℕ
 other a = at a.other
+
+-- the arcs out of a node as the definitions of histories have them
+abbrev pub leaving : Out → Leaving
+leaving (Leaf s) = leaf s
+leaving (One x) = one x
+leaving (Two x y) = two x y
+leaving (Mixed x z) = mixed x z
+
+-- those of node v, by its children and its line
+abbrev pub leaving_in : (lines : List ℕ) → Arcs → ℕ → Leaving
+leaving_in lines a v = out_by (first a v) (second a v) (other a v) (node_species lines v)
 
 -- the network of the lines
 abbrev pub network_in : ℕ → List ℕ → Network
