@@ -37,7 +37,7 @@ struct Source<'a> {
     arcs: Arcs,
 }
 
-impl<'a> Source<'a> {
+impl Source<'_> {
     // The row of gene g. What depends on the gene alone is read here, once for all nodes.
     fn row(&self, g: usize) -> Row
         requires { Ready self.now × (1 ≤ g) × (g ≤ self.now.header.genes) }
@@ -49,7 +49,9 @@ impl<'a> Source<'a> {
             Kind::Tip(layout::lines::gene_species(self.lines, n, g))
         } else {
             let right = layout::genes::right(self.genes, g);
-            Kind::Pair((left - 1) * n, (right - 1) * n)
+            let left_start = (left - 1) * n;
+            let right_start = (right - 1) * n;
+            Kind::Pair(left_start, right_start)
         };
         Row {
             gene: g,

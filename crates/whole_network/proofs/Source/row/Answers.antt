@@ -4,11 +4,11 @@ use Rattle.std.proofs.Common.{◌∙◌, arith}
 use Rattle.whole_network.proofs.Turns.{row_low, left_high, right_low, right_high}
 use Rattle.whole_network.proofs.Source.row.Goals as goal
 
-pub overflow_mul-kind : goal.overflow_mul-kind
-overflow_mul-kind c = omega (arith, row_low c.requires.0 c.left-left.result (omega (arith, c.left-left.ensures, left_high c.requires.0 _ (λ e. c.if-left-eq0.false (c.left-left.ensures ∙ e)))))
+pub overflow_mul-left_start : goal.overflow_mul-left_start
+overflow_mul-left_start c = omega (arith, row_low c.requires.0 c.left-left.result (omega (arith, c.left-left.ensures, left_high c.requires.0 _ (λ e. c.if-left-eq0.false (c.left-left.ensures ∙ e)))))
 
-pub overflow_sub-kind-else-left-eq0 : goal.overflow_sub-kind-else-left-eq0
-overflow_sub-kind-else-left-eq0 c = omega (arith, c.right-right.ensures, right_low c.requires.0 _ (λ e. c.if-left-eq0.false (c.left-left.ensures ∙ e)))
+pub overflow_sub-right_start : goal.overflow_sub-right_start
+overflow_sub-right_start c = omega (arith, c.right-right.ensures, right_low c.requires.0 _ (λ e. c.if-left-eq0.false (c.left-left.ensures ∙ e)))
 
-pub overflow_mul-kind-else-left-eq0 : goal.overflow_mul-kind-else-left-eq0
-overflow_mul-kind-else-left-eq0 c = omega (arith, row_low c.requires.0 c.right-right.result (omega (arith, c.right-right.ensures, right_high c.requires.0 _ (λ e. c.if-left-eq0.false (c.left-left.ensures ∙ e)))))
+pub overflow_mul-right_start : goal.overflow_mul-right_start
+overflow_mul-right_start c = omega (arith, row_low c.requires.0 c.right-right.result (omega (arith, c.right-right.ensures, right_high c.requires.0 _ (λ e. c.if-left-eq0.false (c.left-left.ensures ∙ e)))))
