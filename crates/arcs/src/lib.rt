@@ -1,121 +1,129 @@
-// The arcs of a network as the whole-network cost takes them, in one table: of each node its first and second child by principal arcs and its child by
-// a secondary arc, 0 for none, and the nodes in an order in which each comes after its parents.
+// The arcs of a network as the whole-network cost takes them: of each node its first and second child by principal arcs and its child by a secondary arc,
+// 0 for none, and the nodes in an order in which each comes after its parents.
 #![tactic(auto)]
 
-ghost use Rattle.std.specs.Prelude.{◌≡◌, ◌≤◌, length};
-ghost use Rattle.tables.specs.Columns.{blank, Clear, Kept};
-ghost use Rattle.topology.specs.Networks.{Sound};
+ghost use Rattle.std.specs.Prelude.{◌≡◌, ◌≤◌};
+ghost use Rattle.finite.specs.Tables.{at};
+ghost use Rattle.topology.specs.Networks.{Network, Sound};
 ghost use Rattle.layout.specs.Lines.{nodes_in};
 ghost use Rattle.histories.specs.inner.Grades.{Order};
-ghost use Rattle.arcs.specs.inner.Arcs.{order_column, order, first, second, other, network_in, Childed, Laid};
-ghost use Rattle.arcs.specs.inner.Walks.{Walked, Due, Visited};
+ghost use Rattle.arcs.specs.inner.Arcs.{leaving, leaving_in, network_in, Laid};
+ghost use Rattle.arcs.specs.inner.Walks.{place, Walked, Due, Visited};
 
 use layout::lines;
-use layout::lines::Lines;
-use tables::Table;
+use layout::lines::{Lines, PRINCIPAL, SECONDARY};
+use tables::column::{Column, next_children};
 use text_lines::FIELDS;
 
-pub type Arcs = Table;
-
-pub const ORDER: usize = 0;
-
-pub const FIRST: usize = 1;
-
-pub const SECOND: usize = 2;
-
-pub const OTHER: usize = 3;
-
-// The node at place i of the order.
-pub fn order(a: &Arcs, i: usize) -> usize
-    requires { i ≤ 127 }
-    ensures { result ≡ order a.now i }
-{
-    tables::index(a, ORDER, i)
+#[derive(Clone, Copy)]
+pub struct Arcs {
+    // The node at each place.
+    pub order: Column,
+    pub first: Column,
+    pub second: Column,
+    pub other: Column,
 }
 
-pub fn first(a: &Arcs, v: usize) -> usize
-    requires { v ≤ 127 }
-    ensures { result ≡ first a.now v }
-{
-    tables::index(a, FIRST, v)
+// The arcs out of a node, by the nodes that they lead to: none, at a leaf of a species; one principal; two principal; a principal and a secondary one.
+#[derive(Clone, Copy)]
+pub enum Out {
+    Leaf(usize),
+    One(usize),
+    Two(usize, usize),
+    Mixed(usize, usize),
 }
 
-pub fn second(a: &Arcs, v: usize) -> usize
-    requires { v ≤ 127 }
-    ensures { result ≡ second a.now v }
-{
-    tables::index(a, SECOND, v)
-}
-
-pub fn other(a: &Arcs, v: usize) -> usize
-    requires { v ≤ 127 }
-    ensures { result ≡ other a.now v }
-{
-    tables::index(a, OTHER, v)
-}
-
-// In the table of a walk, the place of each node in the order, 0 for none yet. While it lasts row 0 of the order has how many have one.
-const PLACE: usize = 0;
-
-// Node v is the next in the order, unless it has a place already. Its parents have theirs.
-fn append(n: usize, v: usize, lines: &Lines, out: &mut Arcs, walk: &mut Table)
-    requires { (n ≤ 127) × (v ≤ n) × Walked (network_in n lines.now) out.old walk.old × Due (network_in n lines.now) v walk.old }
-    ensures { Visited (network_in n lines.now) v out.old walk.old out.new walk.new }
-{
-    if tables::get(walk, PLACE, v) != 0 {
-        return;
-    }
-    let k = tables::get(out, ORDER, 0) + 1;
-    tables::put(out, ORDER, tables::wide(k), v as u32);
-    tables::put(out, ORDER, 0, k);
-    tables::put(walk, PLACE, v, k);
-}
-
-// Node v comes into the order, after its parents and theirs; what is no node does not.
-fn visit(n: usize, v: usize, lines: &Lines, out: &mut Arcs, walk: &mut Table)
-    requires { (n ≤ 127) × (v ≤ n) × Sound (network_in n lines.now) × Walked (network_in n lines.now) out.old walk.old }
-    ensures { Visited (network_in n lines.now) v out.old walk.old out.new walk.new }
-{
-    if v == 0 {
-        return;
-    }
-    if tables::get(walk, PLACE, v) != 0 {
-        return;
-    }
-    visit(n, layout::lines::principal(lines, v), lines, out, walk);
-    visit(n, layout::lines::secondary(lines, v), lines, out, walk);
-    append(n, v, lines, out, walk);
-}
-
-// The nodes in an order in which each comes after its parents, in its column, which is empty.
-fn order_nodes(n: usize, lines: &Lines, out: &mut Arcs)
-    requires { (n ≤ 127) × Sound (network_in n lines.now) × Clear order_column out.old }
-    ensures { Order (network_in n lines.now) (order out.new) × Kept order_column out.old out.new × (length out.new ≡ 512) }
-{
-    let mut walk = [0u32; 512];
-    let mut v: usize = 0;
-    while v < n {
-        let w = v + 1;
-        visit(n, w, lines, out, &mut walk);
-        v = w;
+impl Arcs {
+    // The arcs out of node v.
+    pub fn out(&self, lines: &Lines, v: usize) -> Out
+        requires { v ≤ 127 }
+        ensures { leaving result ≡ leaving_in lines.now self.now v }
+    {
+        let x = self.first[v] as usize;
+        if x == 0 {
+            return Out::Leaf(lines::node_species(lines, v));
+        }
+        let y = self.second[v] as usize;
+        if y != 0 {
+            return Out::Two(x, y);
+        }
+        let z = self.other[v] as usize;
+        if z != 0 {
+            return Out::Mixed(x, z);
+        }
+        Out::One(x)
     }
 }
 
-// The children of each node. The column of the order is still empty: above its zeros the next child is the lowest.
-fn list_children(n: usize, lines: &Lines, out: &mut Arcs)
-    requires { (n ≤ 127) × (out.old ≡ blank) }
-    ensures { Childed (nodes_in n lines.now) out.new × Clear order_column out.new }
-{
-    tables::next_children(n, lines, lines::PRINCIPAL, FIELDS, out, ORDER, FIRST);
-    tables::next_children(n, lines, lines::PRINCIPAL, FIELDS, out, FIRST, SECOND);
-    tables::next_children(n, lines, lines::SECONDARY, FIELDS, out, ORDER, OTHER);
+// The walk that puts the nodes in order: who stands at each place, how many stand, and where each node stands, 0 for not yet.
+#[derive(Clone, Copy)]
+struct Walk {
+    order: Column,
+    standing: usize,
+    place: Column,
 }
 
-// The arcs of the network that the lines describe, in a table of zeros.
-pub fn lay(n: usize, lines: &Lines, out: &mut Arcs)
-    requires { (n ≤ 127) × Sound (network_in n lines.now) × (out.old ≡ blank) }
-    ensures { Laid (nodes_in n lines.now) out.new }
+impl Walk {
+    // Node v is the next in the order, unless it stands already. Its parents stand.
+    fn append(&mut self, v: usize)
+        requires { (v ≤ 127) × (place self.old v ≡ 0 → self.old.standing ≤ 126) }
+        ensures { (N : Network) → Walked N self.old → Due N v self.old → Visited N v self.old self.new }
+    {
+        if self.place[v] != 0 {
+            return;
+        }
+        self.standing += 1;
+        self.order[self.standing] = v as u32;
+        self.place[v] = self.standing as u32;
+    }
+
+    // Node v comes into the order, after its parents and theirs; what is no node does not.
+    fn visit(&mut self, n: usize, v: usize, lines: &Lines)
+        requires { (n ≤ 127) × (v ≤ n) × Sound (network_in n lines.now) × Walked (network_in n lines.now) self.old }
+        ensures { Visited (network_in n lines.now) v self.old self.new }
+    {
+        if v == 0 {
+            return;
+        }
+        if self.place[v] != 0 {
+            return;
+        }
+        self.visit(n, lines::principal(lines, v), lines);
+        self.visit(n, lines::secondary(lines, v), lines);
+        self.append(v);
+    }
+}
+
+// The nodes in an order in which each comes after its parents.
+fn order_nodes(n: usize, lines: &Lines) -> Column
+    requires { (n ≤ 127) × Sound (network_in n lines.now) }
+    ensures { Order (network_in n lines.now) (at result) }
 {
-    list_children(n, lines, out);
-    order_nodes(n, lines, out);
+    let mut walk = Walk {
+        order: [0; 128],
+        standing: 0,
+        place: [0; 128],
+    };
+    for v in 1..=n {
+        walk.visit(n, v, lines);
+    }
+    walk.order
+}
+
+// The arcs of the network that the lines describe. Above zeros the next child is the lowest.
+pub fn lay(n: usize, lines: &Lines) -> Arcs
+    requires { (n ≤ 127) × Sound (network_in n lines.now) }
+    ensures { Laid (nodes_in n lines.now) result }
+{
+    let zeros = [0; 128];
+    let mut arcs = Arcs {
+        order: order_nodes(n, lines),
+        first: zeros,
+        second: zeros,
+        other: zeros,
+    };
+    next_children(n, lines, PRINCIPAL, FIELDS, &zeros, &mut arcs.first);
+    next_children(n, lines, PRINCIPAL, FIELDS, &arcs.first, &mut arcs.second);
+    next_children(n, lines, SECONDARY, FIELDS, &zeros, &mut arcs.other);
+    arcs
 }

@@ -1,29 +1,33 @@
--- The turns of the loop over gene 1's row: after v nodes the sum so far stands for the least of theirs.
+-- The least word of the first words of a list stands for the least of their costs, for the word for no history is the highest.
 -- Assumes nothing.
-use mathlib.Core.Path.{◌≡◌, ap, ◌∙◌}
-use mathlib.Core.List.{List}
-use Prim.Native.Nat.{ℕ, suc, ◌+◌, ◌-◌, ◌*◌, ◌≤◌}
-use native.Mathlib.Numerals.{add-one}
-use native.Mathlib.Omega.{arith}
-use lib.ListN.{get_or}
-use Rattle.histories.specs.Histories.{Cost, ◌lesser◌, least_over}
+use Rattle.std.proofs.Common.{◌≡◌, ℕ, zero, suc, ◌≤◌, min, List, [], ◌∷◌, ◌++◌, length, get_or, take, refl, sym, ap, ◌∙◌, arith}
+use Rattle.std.proofs.Math.Seq.{take-suc}
+use Rattle.std.specs.List.{reduce}
+use Rattle.std.specs.Option.{unwrap_or}
+use Rattle.std.proofs.lemmas.List.Sums.{fold-append}
+use Rattle.histories.specs.Histories.{least_over}
 use Rattle.histories.specs.Words.{no_history, cost_of, cell}
 use Rattle.histories.specs.inner.Rows.{row}
-use Rattle.cell_costs.specs.inner.Costs.{cost_in}
-use Rattle.cell_costs.proofs.Sums.{sum_none, sum_word}
+use Rattle.histories.proofs.Words.{cost_none}
+use Rattle.cell_costs.proofs.Sums.{lesser_of, sum_word}
 
-pub over_start : (f : ℕ → Cost) (w : ℕ) → w ≡ no_history → cost_in w ≡ least_over 0 f
-unfolding least_over
-over_start f w e = sum_none (omega arith)
+-- the least of some words, the highest word where there are none
+abbrev least_word : List ℕ → ℕ
+least_word xs = unwrap_or (reduce min xs) no_history
 
-pub over_turn : (n : ℕ) (s : List ℕ) (v r w q : ℕ) → cost_in r ≡ least_over v (row n s 1) → w ≡ get_or s v 0 → w ≤ no_history → cost_in q ≡ (cost_in r lesser cost_in w) → cost_in q ≡ least_over (v + 1) (row n s 1)
+-- one word more
+one_more : (xs : List ℕ) (y : ℕ) → y ≤ no_history → least_word (xs ++ (y ∷ [])) ≡ min (least_word xs) y
+one_more [] y l = omega arith
+one_more (x ∷ xs) y l = fold-append min x xs (y ∷ [])
+
+words_fit : (s : List ℕ) (k : ℕ) → k ≤ length s → ((i : ℕ) → get_or s i 0 ≤ no_history) → least_word (take k s) ≤ no_history
+words_fit s zero l f = omega arith
+words_fit s (suc k) l f = rw (take-suc s k 0 l) (omega (arith, one_more (take k s) (get_or s k 0) (f k), f k))
+
+pub least_words : (n : ℕ) (s : List ℕ) (k : ℕ) → k ≤ length s → ((i : ℕ) → get_or s i 0 ≤ no_history) → cost_of (least_word (take k s)) ≡ least_over k (row n s 1)
 unfolding least_over row cell
-over_turn n s v r w q e ew l f = rw add-one (f ∙ rw (e, sum_word w l, ew, at_one))
-  where
-    at_one : get_or s v 0 ≡ get_or s ((1 - 1) * n + (suc v - 1)) 0
-    at_one = ap (λ x. get_or s x 0) (omega arith)
-
-pub over_done : (n : ℕ) (f : ℕ → Cost) (v r w : ℕ) → v ≤ n → n ≤ v → cost_in r ≡ least_over v f → cost_of w ≡ cost_in r → cost_of w ≡ least_over n f
-over_done n f v r w a b h q = let e : v ≡ n = omega arith in q ∙ rw e at h
-
-pub ruleset over_loop = (over_start, over_turn, over_done)
+least_words n s zero l f = cost_none refl
+least_words n s (suc k) l f = sym (sum_word _ (words_fit s (suc k) l f)) ∙ rw (take-suc s k 0 l) (
+    lesser_of _ _ _ (one_more (take k s) (get_or s k 0) (f k))
+    (sum_word _ (words_fit s k (omega arith) f) ∙ least_words n s k (omega arith) f)
+    (sum_word _ (f k) ∙ ap (λ x. cost_of (get_or s x 0)) (omega arith)))

@@ -5,10 +5,12 @@ use mathlib.Core.Path.{◌≡◌, refl, sym, ap, ◌∙◌}
 use mathlib.Core.Logic.{◌≢◌}
 use mathlib.Core.Option.{none, some}
 use mathlib.Core.List.{List}
-use Prim.Native.Nat.{ℕ, ◌+◌, ◌-◌, ◌≤◌, ◌<◌}
+use Prim.Native.Nat.{ℕ, ◌+◌, ◌-◌, ◌≤◌, ◌<◌, min}
 use lib.ListN.{get_or, length, take, drop, length-drop}
 use lib.Seq.{take_all}
 use native.Mathlib.Omega.{arith}
+use Rattle.std.specs.Prelude.{Result, Ok, Err}
+use Rattle.std.specs.Result.{OkIff, result_unwrap_or}
 use Rattle.finite.proofs.Tests.{is_under, not_under}
 use Rattle.finite.proofs.Cases.{by_eq, by_less}
 use Rattle.histories.specs.Histories.{Cost, ◌lesser◌, ◌⊕◌, then, both}
@@ -55,24 +57,20 @@ sum_both x a b l h i = by_eq a no_history
     (λ e. let u = small_word a h d in let w = small_word b i e in rw (cost_some d, cost_some e) (sum_some (omega arith))))
 
 -- the lesser of two sums
-pub lesser_left : (a b : ℕ) → a < b → cost_in a ≡ cost_in a lesser cost_in b
+pub lesser_of : (r a b : ℕ) {A B : Cost} → r ≡ min a b → cost_in a ≡ A → cost_in b ≡ B → cost_in r ≡ (A lesser B)
 unfolding ◌lesser◌
-lesser_left a b l = by_less b no_history
-    (λ h. rw (sum_some {w = a} (omega arith), sum_some h) (ap some (omega arith)))
-    (λ h. rw (sum_none h) (or_none (cost_in a)))
-
-pub lesser_right : (a b : ℕ) → b ≤ a → cost_in b ≡ cost_in a lesser cost_in b
-unfolding ◌lesser◌
-lesser_right a b l = by_less a no_history
-    (λ h. rw (sum_some h, sum_some {w = b} (omega arith)) (ap some (omega arith)))
-    (λ h. rw (sum_none h))
+lesser_of r a b e ea eb = rw (← ea, ← eb) (by_less a no_history
+    (λ l. by_less b no_history
+    (λ h. rw (sum_some l, sum_some h) (sum_some {w = r} (omega arith) ∙ ap some e))
+    (λ h. rw (sum_some l, sum_none h) (sum_some {w = r} (omega arith) ∙ ap some (omega arith))))
+    (λ l. rw (sum_none l) (by_less b no_history
+    (λ h. let f : r ≡ b = omega arith in rw f)
+    (λ h. sum_none {w = r} (omega arith) ∙ sym (sum_none h)))))
 
 -- the word of a sum
-pub clip_some : (c : ℕ) → c < no_history → cost_of c ≡ cost_in c
-clip_some c l = cost_some {w = c} (λ e. omega arith) ∙ sym (sum_some l)
-
-pub clip_none : (c : ℕ) → no_history ≤ c → cost_of no_history ≡ cost_in c
-clip_none c l = cost_none {w = no_history} refl ∙ sym (sum_none l)
+pub clip : {E : Type 0} (c w : ℕ) (t : Result ℕ E) → OkIff t (c < 4294967296) c → w ≡ result_unwrap_or t no_history → cost_of w ≡ cost_in c
+clip c w (Ok x) f e = let q : w ≡ c = omega arith in rw q (sym (sum_word c (omega arith)))
+clip c w (Err _) f e = rw e (cost_none {w = no_history} refl ∙ sym (sum_none (by_less c 4294967296 (λ l. absurd (f l)) (λ l. omega arith))))
 
 -- the same of the words of rows
 module _ (x : ℕ) (l : x ≤ 198) (r : List ℕ) (u a : ℕ) (h : Cell r u) (ea : a ≡ get_or r (u - 1) 0) where

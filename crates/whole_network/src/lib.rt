@@ -1,147 +1,113 @@
 // The network as a whole: the least cost over all histories, for each gene and starting node.
 #![tactic(auto)]
 
-ghost use Rattle.std.specs.Prelude.{◌-◌, ◌*◌, ◌≤◌, length};
+ghost use Rattle.std.specs.Prelude.{◌≡◌, ◌-◌, ◌*◌, ◌≤◌, length};
+ghost use Rattle.histories.specs.Histories.{least};
 ghost use Rattle.histories.specs.inner.Promise.{WholeNetwork};
-ghost use Rattle.whole_network.specs.inner.Stages.{family_in, AcceptedIn, Filling, TipRow, InnerRow, RowsIn, PartlyIn, KeptIn};
+ghost use Rattle.cell_costs.specs.inner.Costs.{cost_in};
+ghost use Rattle.arcs.specs.inner.Arcs.{order};
+ghost use Rattle.whole_network.specs.inner.Stages.{family_in, AcceptedIn, family, Ready, Filling, RowOf, RowsIn, PartlyIn, KeptIn, Next};
 
 use arcs::Arcs;
 use layout::Header;
 use layout::genes::Genes;
 use layout::lines::Lines;
 
-// A gene's row: where it begins, of a leaf gene its species, and of an inner gene where its children's rows begin.
+// A leaf gene of a species, or an inner gene, by where its children's rows begin.
+#[derive(Clone, Copy)]
+enum Kind {
+    Tip(usize),
+    Pair(usize, usize),
+}
+
+// A gene's row: where it begins, and what its words depend on.
 #[derive(Clone, Copy)]
 struct Row {
     gene: usize,
     start: usize,
-    species: usize,
-    left: usize,
-    right: usize,
+    kind: Kind,
 }
 
-// The next word of the row of a leaf gene: at place i of the order.
-fn tip_cell(
-    h: Header,
-    row: Row,
-    i: usize,
-    lines: &Lines,
-    genes: &Genes,
-    arcs: &Arcs,
-    scratch: &mut [u32],
-)
-    requires filling { Filling h lines.now genes.now arcs.now scratch.old × TipRow h lines.now genes.now row }
-    requires at_place { (1 ≤ i) × (i ≤ h.nodes) × PartlyIn h lines.now genes.now arcs.now scratch.old row.gene i }
-    ensures partly_in { PartlyIn h lines.now genes.now arcs.now scratch.new row.gene (i - 1) }
-    ensures kept_in { KeptIn h lines.now genes.now scratch.old scratch.new }
-{
-    let v = arcs::order(arcs, i);
-    let g = row.start;
-    let c = cell_costs::tip_cost(h, &scratch[g..], row.species, v, lines, arcs);
-    scratch[g + (v - 1)] = cell_costs::clipped(c);
+// What the table is filled from.
+#[derive(Clone, Copy)]
+struct Source<'a> {
+    header: Header,
+    lines: &'a Lines,
+    genes: &'a Genes,
+    arcs: Arcs,
 }
 
-// The next word of the row of an inner gene.
-fn inner_cell(
-    h: Header,
-    row: Row,
-    i: usize,
-    lines: &Lines,
-    genes: &Genes,
-    arcs: &Arcs,
-    scratch: &mut [u32],
-)
-    requires filling { Filling h lines.now genes.now arcs.now scratch.old × InnerRow h genes.now row }
-    requires at_place { (1 ≤ i) × (i ≤ h.nodes) × PartlyIn h lines.now genes.now arcs.now scratch.old row.gene i }
-    ensures partly_in { PartlyIn h lines.now genes.now arcs.now scratch.new row.gene (i - 1) }
-    ensures kept_in { KeptIn h lines.now genes.now scratch.old scratch.new }
-{
-    let v = arcs::order(arcs, i);
-    let a = row.left;
-    let b = row.right;
-    let g = row.start;
-    let c = cell_costs::inner_cost(h, &scratch[a..], &scratch[b..], &scratch[g..], v, arcs);
-    scratch[g + (v - 1)] = cell_costs::clipped(c);
-}
-
-// The row of a leaf gene, from the last node of the order, for arcs out lead to later ones.
-fn fill_tip_row(h: Header, row: Row, lines: &Lines, genes: &Genes, arcs: &Arcs, scratch: &mut [u32])
-    requires filling { Filling h lines.now genes.now arcs.now scratch.old × TipRow h lines.now genes.now row }
-    requires rows_in { RowsIn h lines.now genes.now scratch.old row.gene }
-    ensures rows_after { RowsIn h lines.now genes.now scratch.new (row.gene - 1) }
-    ensures kept_in { KeptIn h lines.now genes.now scratch.old scratch.new }
-{
-    let mut i = h.nodes;
-    while 0 < i {
-        tip_cell(h, row, i, lines, genes, arcs, scratch);
-        i -= 1;
-    }
-}
-
-// The row of an inner gene, from the rows of its children.
-fn fill_inner_row(
-    h: Header,
-    row: Row,
-    lines: &Lines,
-    genes: &Genes,
-    arcs: &Arcs,
-    scratch: &mut [u32],
-)
-    requires filling { Filling h lines.now genes.now arcs.now scratch.old × InnerRow h genes.now row }
-    requires rows_in { RowsIn h lines.now genes.now scratch.old row.gene }
-    ensures rows_after { RowsIn h lines.now genes.now scratch.new (row.gene - 1) }
-    ensures kept_in { KeptIn h lines.now genes.now scratch.old scratch.new }
-{
-    let mut i = h.nodes;
-    while 0 < i {
-        inner_cell(h, row, i, lines, genes, arcs, scratch);
-        i -= 1;
-    }
-}
-
-// The row of gene g. What depends on the gene alone is read here, once for all nodes.
-fn fill_row(h: Header, g: usize, lines: &Lines, genes: &Genes, arcs: &Arcs, scratch: &mut [u32])
-    requires { Filling h lines.now genes.now arcs.now scratch.old × (1 ≤ g) × (g ≤ h.genes) × RowsIn h lines.now genes.now scratch.old g }
-    ensures rows_in { RowsIn h lines.now genes.now scratch.new (g - 1) }
-    ensures kept_in { KeptIn h lines.now genes.now scratch.old scratch.new }
-{
-    let start = (g - 1) * h.nodes;
-    let a = layout::genes::left(genes, g);
-    if a == 0 {
-        let species = layout::lines::gene_species(lines, h.nodes, g);
-        let tip = Row {
-            gene: g,
-            start: start,
-            species: species,
-            left: 0,
-            right: 0,
+impl Source<'_> {
+    // The row of gene g. What depends on the gene alone is read here, once for all nodes.
+    fn row(&self, g: usize) -> Row
+        requires { Ready self.now × (1 ≤ g) × (g ≤ self.now.header.genes) }
+        ensures { RowOf self.now result × (result.gene ≡ g) }
+    {
+        let n = self.header.nodes;
+        let left = layout::genes::left(self.genes, g);
+        let kind = if left == 0 {
+            Kind::Tip(layout::lines::gene_species(self.lines, n, g))
+        } else {
+            let right = layout::genes::right(self.genes, g);
+            let left_start = (left - 1) * n;
+            let right_start = (right - 1) * n;
+            Kind::Pair(left_start, right_start)
         };
-        fill_tip_row(h, tip, lines, genes, arcs, scratch);
-        return;
+        Row {
+            gene: g,
+            start: (g - 1) * n,
+            kind,
+        }
     }
-    let left = (a - 1) * h.nodes;
-    let b = layout::genes::right(genes, g);
-    let right = (b - 1) * h.nodes;
-    let inner = Row {
-        gene: g,
-        start: start,
-        species: 0,
-        left: left,
-        right: right,
-    };
-    fill_inner_row(h, inner, lines, genes, arcs, scratch);
-}
 
-// All rows: genes from the last to the first, for children have higher numbers.
-fn fill_rows(h: Header, lines: &Lines, genes: &Genes, arcs: &Arcs, scratch: &mut [u32])
-    requires { Filling h lines.now genes.now arcs.now scratch.old }
-    ensures rows_in { RowsIn h lines.now genes.now scratch.new 0 }
-    ensures kept_in { KeptIn h lines.now genes.now scratch.old scratch.new }
-{
-    let mut g = h.genes;
-    while 0 < g {
-        fill_row(h, g, lines, genes, arcs, scratch);
-        g -= 1;
+    // The least cost of a row's gene at place i of the order of the nodes.
+    fn cost(&self, row: Row, i: usize, scratch: &[u32]) -> usize
+        requires { Next self.now scratch.now row i }
+        ensures { cost_in result ≡ least (family self.now) row.gene (order self.now.arcs i) }
+    {
+        let v = self.arcs.order[i] as usize;
+        let out = self.arcs.out(self.lines, v);
+        let own = &scratch[row.start..];
+        match row.kind {
+            Kind::Tip(species) => cell_costs::tip_cost(self.header, own, species, out),
+            Kind::Pair(a, b) => {
+                cell_costs::inner_cost(self.header, &scratch[a..], &scratch[b..], own, v, out)
+            }
+        }
+    }
+
+    // The next word of a row.
+    fn fill_word(&self, row: Row, i: usize, scratch: &mut [u32])
+        requires { Next self.now scratch.old row i }
+        ensures partly_in { PartlyIn self.now scratch.new row.gene (i - 1) }
+        ensures kept_in { KeptIn self.now scratch.old scratch.new }
+    {
+        let c = self.cost(row, i, scratch);
+        let v = self.arcs.order[i] as usize;
+        scratch[row.start + (v - 1)] = cell_costs::clipped(c);
+    }
+
+    // The row of gene g, from the last node of the order, for arcs out lead to later ones.
+    fn fill_row(&self, g: usize, scratch: &mut [u32])
+        requires { Filling self.now scratch.old × (1 ≤ g) × (g ≤ self.now.header.genes) × RowsIn self.now scratch.old g }
+        ensures rows_in { RowsIn self.now scratch.new (g - 1) }
+        ensures kept_in { KeptIn self.now scratch.old scratch.new }
+    {
+        let row = self.row(g);
+        for i in (1..=self.header.nodes).rev() {
+            self.fill_word(row, i, scratch);
+        }
+    }
+
+    // All rows: genes from the last to the first, for children have higher numbers.
+    fn fill_rows(&self, scratch: &mut [u32])
+        requires { Filling self.now scratch.old }
+        ensures rows_in { RowsIn self.now scratch.new 0 }
+        ensures kept_in { KeptIn self.now scratch.old scratch.new }
+    {
+        for g in (1..=self.header.genes).rev() {
+            self.fill_row(g, scratch);
+        }
     }
 }
 
@@ -150,9 +116,12 @@ pub fn fill(h: Header, lines: &Lines, genes: &Genes, scratch: &mut [u32]) -> u32
     requires { AcceptedIn h lines.now genes.now × (h.genes * h.nodes ≤ length scratch.old) }
     ensures { WholeNetwork (family_in h lines.now genes.now) scratch.old scratch.new result }
 {
-    let n = h.nodes;
-    let mut arcs = [0u32; 512];
-    arcs::lay(n, lines, &mut arcs);
-    fill_rows(h, lines, genes, &arcs, scratch);
-    cell_costs::least_start(n, scratch)
+    let source = Source {
+        header: h,
+        lines,
+        genes,
+        arcs: arcs::lay(h.nodes, lines),
+    };
+    source.fill_rows(scratch);
+    cell_costs::least_start(h.nodes, scratch)
 }

@@ -1,49 +1,47 @@
--- The table of the arcs of a network: of each node the nodes that its arcs out lead to, and an order of the nodes.
+-- The arcs of a network: of each node the nodes that its arcs out lead to, and an order of the nodes.
 -- Assumes nothing.
-use Rattle.std.specs.Prelude.{◌≡◌, List, ℕ, ◌≤◌, length}
-use Rattle.tables.specs.Columns.{entry}
+use Rattle.std.specs.Prelude.{◌≡◌, List, ℕ, ◌≤◌}
+use Rattle.finite.specs.Tables.{at}
 use Rattle.topology.specs.Networks.{Network}
 use Rattle.topology.specs.Lines.{NodeLines, network}
-use Rattle.layout.specs.Lines.{nodes_in}
-use Rattle.histories.specs.Families.{first_child, second_child, other_child}
+use Rattle.layout.specs.Lines.{nodes_in, node_species}
+use Rattle.histories.specs.Histories.{Out as Leaving, leaf, one, two, mixed}
+use Rattle.histories.specs.Families.{out_by, first_child, second_child, other_child}
 use Rattle.histories.specs.inner.Grades.{Order}
+use Rattle.arcs.specs.declared.Arcs.{Arcs}
+use Rattle.arcs.specs.declared.Out.{Out}
+use Rattle.arcs.specs.declared.Out.TheVariants.{Leaf, One, Two, Mixed}
 
-abbrev pub order_column : ℕ
-order_column = 0
+abbrev pub order : Arcs → ℕ → ℕ
+order a = at a.order
 
-abbrev pub order : List ℕ → ℕ → ℕ
-order t = entry t order_column
+abbrev pub first : Arcs → ℕ → ℕ
+first a = at a.first
 
-abbrev pub first_column : ℕ
-first_column = 1
+abbrev pub second : Arcs → ℕ → ℕ
+second a = at a.second
 
-abbrev pub first : List ℕ → ℕ → ℕ
-first t = entry t first_column
+abbrev pub other : Arcs → ℕ → ℕ
+other a = at a.other
 
-abbrev pub second_column : ℕ
-second_column = 2
+-- the arcs out of a node as the definitions of histories have them
+abbrev pub leaving : Out → Leaving
+leaving (Leaf s) = leaf s
+leaving (One x) = one x
+leaving (Two x y) = two x y
+leaving (Mixed x z) = mixed x z
 
-abbrev pub second : List ℕ → ℕ → ℕ
-second t = entry t second_column
-
-abbrev pub other_column : ℕ
-other_column = 3
-
-abbrev pub other : List ℕ → ℕ → ℕ
-other t = entry t other_column
+-- those of node v, by its children and its line
+abbrev pub leaving_in : (lines : List ℕ) → Arcs → ℕ → Leaving
+leaving_in lines a v = out_by (first a v) (second a v) (other a v) (node_species lines v)
 
 -- the network of the lines
 abbrev pub network_in : ℕ → List ℕ → Network
 network_in n lines = network (nodes_in n lines)
 
--- the table has the children of each node
-pub record Childed (L : NodeLines) (t : List ℕ) : Type 0 where
-  pub long : length t ≡ 512
-  pub firsts : (v : ℕ) → 1 ≤ v → v ≤ L.size → first t v ≡ first_child L v
-  pub seconds : (v : ℕ) → 1 ≤ v → v ≤ L.size → second t v ≡ second_child L v
-  pub others : (v : ℕ) → 1 ≤ v → v ≤ L.size → other t v ≡ other_child L v
-
--- and the nodes in order
-pub record Laid (L : NodeLines) (t : List ℕ) : Type 0 where
-  pub children : Childed L t
-  pub ordered : Order (network L) (order t)
+-- the columns have the children of each node, and the nodes in order
+pub record Laid (L : NodeLines) (a : Arcs) : Type 0 where
+  pub firsts : (v : ℕ) → 1 ≤ v → v ≤ L.size → first a v ≡ first_child L v
+  pub seconds : (v : ℕ) → 1 ≤ v → v ≤ L.size → second a v ≡ second_child L v
+  pub others : (v : ℕ) → 1 ≤ v → v ≤ L.size → other a v ≡ other_child L v
+  pub ordered : Order (network L) (order a)
