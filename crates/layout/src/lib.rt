@@ -3,6 +3,7 @@
 #![tactic(auto)]
 
 pub mod choices;
+pub mod events;
 pub mod genes;
 pub mod lines;
 pub mod parts;

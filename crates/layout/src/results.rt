@@ -1,41 +1,21 @@
 // What the report says of each gene: its place, its event, the transfers and the losses on its way.
-ghost use Rattle.std.specs.Prelude.{◌≡◌, ◌≤◌};
-ghost use Rattle.layout.specs.inner.Results.{place, event, transfers, losses};
+use crate::events::Event;
 
-pub type Results = tables::Table;
-
-pub const PLACE: usize = 0;
-
-pub const EVENT: usize = 1;
-
-pub const TRANSFERS: usize = 2;
-
-pub const LOSSES: usize = 3;
-
-pub fn place(r: &Results, k: usize) -> usize
-    requires { k ≤ 127 }
-    ensures { result ≡ place r.now k }
-{
-    tables::index(r, PLACE, k)
+#[derive(Clone, Copy)]
+pub struct Placed {
+    pub place: u32,
+    pub event: Event,
+    pub transfers: u32,
+    pub losses: u32,
 }
 
-pub fn event(r: &Results, k: usize) -> u32
-    requires { k ≤ 127 }
-    ensures { result ≡ event r.now k }
-{
-    tables::get(r, EVENT, k)
-}
+// By gene: entry k is about gene k, entry 0 about none.
+pub type Results = [Placed; 128];
 
-pub fn transfers(r: &Results, k: usize) -> u32
-    requires { k ≤ 127 }
-    ensures { result ≡ transfers r.now k }
-{
-    tables::get(r, TRANSFERS, k)
-}
-
-pub fn losses(r: &Results, k: usize) -> u32
-    requires { k ≤ 127 }
-    ensures { result ≡ losses r.now k }
-{
-    tables::get(r, LOSSES, k)
-}
+// A gene of which nothing is known yet.
+pub const UNPLACED: Placed = Placed {
+    place: 0,
+    event: Event::LeafGene,
+    transfers: 0,
+    losses: 0,
+};

@@ -1,26 +1,30 @@
 -- The turns of the loop over the genes, from the highest number down. A gene's children have higher numbers, so their places stand; what is on their ways
 -- is counted at it, each child at the one gene that it is a child of.
 -- Assumes nothing.
-use mathlib.Core.Path.{◌≡◌, refl, sym, ◌∙◌, ap}
+use mathlib.Core.Path.{◌≡◌, refl, sym, ◌∙◌, ap, subst}
 use mathlib.Core.Logic.{◌≢◌, ◌⊎◌, inl, inr}
 use mathlib.Core.Bool.{◌||◌}
 use mathlib.Core.List.{List}
 use Prim.Native.Nat.{ℕ, ◌+◌, ◌-◌, ◌*◌, ◌≤◌, ◌<◌}
-use lib.ListN.{length}
+use lib.ListN.{length, length-set}
 use native.Mathlib.Omega.{arith}
-use native.Mathlib.Nat.{mul-le-mul, mul-add}
+use native.Mathlib.Nat.{mul-le-mul, mul-add, mul-zero}
 use Rattle.finite.specs.Tests.{same, tally}
 use Rattle.finite.specs.Range.{count}
 use Rattle.finite.proofs.Cases.{by_eq}
 use Rattle.finite.proofs.Tests.{is_same, not_same}
 use Rattle.finite.proofs.Sum.{down_start, down_turn, down_fits, down_done}
-use Rattle.tables.specs.Columns.{entry, written, blank}
-use Rattle.tables.proofs.Columns.{long, write_here, write_row, write_column, blank_clear}
+use Rattle.layout.specs.Events.{number}
 use Rattle.layout.specs.inner.Results as R
+use Rattle.layout.specs.inner.Results.{blank}
+use Rattle.layout.proofs.Placed.{blank_long, blank_placed, written_here, written_other, written_kept}
 use Rattle.layout.specs.inner.Genes.{gene_tree}
 use Rattle.layout.specs.inner.Genes as L
 use Rattle.layout.specs.Headers.{costs}
 use Rattle.layout.specs.declared.Header.{Header}
+use Rattle.layout.specs.declared.events.Event.{Event}
+use Rattle.layout.specs.declared.events.Event.TheVariants.{LeafGene}
+use Rattle.layout.specs.declared.results.Placed.{Placed}
 use Rattle.reconciliation.specs.GeneTrees.{GeneTree}
 use Rattle.reconciliation.proofs.Genes.{parent_gene}
 use Rattle.displayed.specs.Displayed.{Displayed, Tree, common}
@@ -39,39 +43,49 @@ use Rattle.mapping.specs.declared.Pair.{Pair}
 use Rattle.mapping.specs.declared.Score.{Score}
 
 -- what is written of a gene
-module _ (r : List ℕ) (k node code : ℕ) (l : length r ≡ 512) (lk : k < 128) where
-  seated_long : length (seated_by r k node code) ≡ 512
-  unfolding seated_by
-  seated_long = long (written r 0 k node) 1 k code lk ∙ long r 0 k node lk ∙ l
+module _ (r : List Placed) (k node : ℕ) (event : Event) (l : length r ≡ 128) (lk : k < 128) where
+  abbrev seated : Placed
+  seated = record (R.placed r k) { place = node; event = event }
 
-  seated_place : R.place (seated_by r k node code) k ≡ node
-  unfolding seated_by
-  seated_place = write_column (written r 0 k node) 1 k code lk 0 k (λ e. omega arith) ∙ write_here r 0 k node lk (omega (arith, l))
+  inside : k < length r
+  inside = omega (arith, l)
 
-  seated_event : R.event (seated_by r k node code) k ≡ code
+  seated_long : length (seated_by r k node event) ≡ 128
   unfolding seated_by
-  seated_event = write_here (written r 0 k node) 1 k code lk (omega (arith, long r 0 k node lk, l))
+  seated_long = length-set r k seated ∙ l
 
-  seated_row : (j v : ℕ) → v ≢ k → entry (seated_by r k node code) j v ≡ entry r j v
+  seated_place : R.place (seated_by r k node event) k ≡ node
   unfolding seated_by
-  seated_row j v d = write_row (written r 0 k node) 1 k code lk j v d ∙ write_row r 0 k node lk j v d
+  seated_place = ap (λ (p : Placed). p.place) (written_here r k seated inside)
 
-  seated_column : (j v : ℕ) → j ≢ 0 → j ≢ 1 → entry (seated_by r k node code) j v ≡ entry r j v
+  seated_event : R.event (seated_by r k node event) k ≡ number event
   unfolding seated_by
-  seated_column j v d e = write_column (written r 0 k node) 1 k code lk j v e ∙ write_column r 0 k node lk j v d
+  seated_event = ap (λ (p : Placed). number p.event) (written_here r k seated inside)
+
+  seated_other : (g : ℕ) → g ≢ k → R.placed (seated_by r k node event) g ≡ R.placed r g
+  unfolding seated_by
+  seated_other = written_other r k seated inside
+
+  seated_transfers : (g : ℕ) → R.transfers (seated_by r k node event) g ≡ R.transfers r g
+  unfolding seated_by
+  seated_transfers = written_kept r k seated inside (λ p. p.transfers) refl
+
+  seated_losses : (g : ℕ) → R.losses (seated_by r k node event) g ≡ R.losses r g
+  unfolding seated_by
+  seated_losses = written_kept r k seated inside (λ p. p.losses) refl
 
 -- the leaf genes one after another
-pub leaves_start : (g : List ℕ) {r : List ℕ} → r ≡ blank → LeavesUpto g 0 r
+pub leaves_start : (g : List ℕ) {r : List Placed} → r ≡ blank → LeavesUpto g 0 r
 leaves_start g e = rw e (record {
-  long = (blank_clear 0 (omega arith)).long;
+  long = blank_long;
   places = λ j a b. absurd (omega arith);
   events = λ j a b. absurd (omega arith);
-  no_transfers = (blank_clear 2 (omega arith)).none;
-  no_losses = (blank_clear 3 (omega arith)).none;
+  no_transfers = λ j. ap (λ (p : Placed). p.transfers) (blank_placed j);
+  no_losses = λ j. ap (λ (p : Placed). p.losses) (blank_placed j);
 })
 
-module _ {g r : List ℕ} (k : ℕ) (u : LeavesUpto g k r) where
-  pub leaves_skip : L.left g (k + 1) ≢ 0 → LeavesUpto g (k + 1) r
+module _ {g : List ℕ} {r : List Placed} (k : ℕ) (low : 1 ≤ k) (u : LeavesUpto g (k - 1) r) where
+  pub leaves_skip : L.left g k ≢ 0 → LeavesUpto g k r
   leaves_skip d = record {
     long = u.long;
     places = λ j a b e. u.places j a (below j b e) e;
@@ -80,22 +94,25 @@ module _ {g r : List ℕ} (k : ℕ) (u : LeavesUpto g k r) where
     no_losses = u.no_losses;
   }
     where
-      below : (j : ℕ) → j ≤ k + 1 → L.left g j ≡ 0 → j ≤ k
-      below j b e = by_eq j (k + 1) (λ q. absurd (d (ap (L.left g) (sym q) ∙ e))) (λ q. omega arith)
+      below : (j : ℕ) → j ≤ k → L.left g j ≡ 0 → j ≤ k - 1
+      below j b e = by_eq j k (λ q. absurd (d (ap (L.left g) (sym q) ∙ e))) (λ q. omega arith)
 
-  pub leaves_next : {s : List ℕ} {v : ℕ} → k < 127 → v ≡ L.leaf g (k + 1) → s ≡ seated_by r (k + 1) v 0 → LeavesUpto g (k + 1) s
+  pub leaves_next : {s : List Placed} {v : ℕ} → k ≤ 127 → v ≡ L.leaf g k → s ≡ seated_by r k v LeafGene → LeavesUpto g k s
   leaves_next {s} {v} l ev q = rw q (record {
-    long = seated_long r (k + 1) v 0 u.long lk;
-    places = λ j a b e. by_eq j (k + 1) (λ p. rw p (seated_place r (k + 1) v 0 u.long lk ∙ ev)) (λ p. seated_row r (k + 1) v 0 u.long lk 0 j p ∙ u.places j a (omega arith) e);
-    events = λ j a b e. by_eq j (k + 1) (λ p. rw p (seated_event r (k + 1) v 0 u.long lk)) (λ p. seated_row r (k + 1) v 0 u.long lk 1 j p ∙ u.events j a (omega arith) e);
-    no_transfers = λ j. seated_column r (k + 1) v 0 u.long lk 2 j (λ p. omega arith) (λ p. omega arith) ∙ u.no_transfers j;
-    no_losses = λ j. seated_column r (k + 1) v 0 u.long lk 3 j (λ p. omega arith) (λ p. omega arith) ∙ u.no_losses j;
+    long = seated_long r k v LeafGene u.long lk;
+    places = λ j a b e. by_eq j k (λ p. rw p (seated_place r k v LeafGene u.long lk ∙ ev)) (λ p. ap (λ (x : Placed). x.place) (seated_other r k v LeafGene u.long lk j p) ∙ u.places j a (omega arith) e);
+    events = λ j a b e. by_eq j k (λ p. rw p (seated_event r k v LeafGene u.long lk)) (λ p. ap (λ (x : Placed). number x.event) (seated_other r k v LeafGene u.long lk j p) ∙ u.events j a (omega arith) e);
+    no_transfers = λ j. seated_transfers r k v LeafGene u.long lk j ∙ u.no_transfers j;
+    no_losses = λ j. seated_losses r k v LeafGene u.long lk j ∙ u.no_losses j;
   })
     where
-      lk : k + 1 < 128
+      lk : k < 128
       lk = omega arith
 
-pub leaves_done : {m k : ℕ} {g r : List ℕ} → m ≤ k → LeavesUpto g k r → Lent (gene_tree m g) r
+pub leaves_after : {g : List ℕ} {r : List Placed} (k : ℕ) → LeavesUpto g k r → LeavesUpto g (k + 1 - 1) r
+leaves_after {g} {r} k u = let e : k ≡ k + 1 - 1 = omega arith in subst (λ (j : ℕ). LeavesUpto g j r) e u
+
+pub leaves_done : {m k : ℕ} {g : List ℕ} {r : List Placed} → m ≤ k → LeavesUpto g k r → Lent (gene_tree m g) r
 unfolding gene_tree
 leaves_done l u = record {
   long = u.long;
@@ -106,60 +123,77 @@ leaves_done l u = record {
 }
 
 -- what is written of a way
-module _ (r : List ℕ) (k : ℕ) (w : Steps) (l : length r ≡ 512) (lk : k < 128) where
-  sent_long : length (sent_to r k w) ≡ 512
+module _ (r : List Placed) (k : ℕ) (w : Steps) (l : length r ≡ 128) (lk : k < 128) where
+  abbrev sent : Placed
+  sent = record (R.placed r k) { transfers = w.transfers; losses = w.losses }
+
+  within : k < length r
+  within = omega (arith, l)
+
+  sent_long : length (sent_to r k w) ≡ 128
   unfolding sent_to
-  sent_long = long (written r 2 k w.transfers) 3 k w.losses lk ∙ long r 2 k w.transfers lk ∙ l
+  sent_long = length-set r k sent ∙ l
 
   sent_transfers : R.transfers (sent_to r k w) k ≡ w.transfers
   unfolding sent_to
-  sent_transfers = write_column (written r 2 k w.transfers) 3 k w.losses lk 2 k (λ e. omega arith) ∙ write_here r 2 k w.transfers lk (omega (arith, l))
+  sent_transfers = ap (λ (p : Placed). p.transfers) (written_here r k sent within)
 
   sent_losses : R.losses (sent_to r k w) k ≡ w.losses
   unfolding sent_to
-  sent_losses = write_here (written r 2 k w.transfers) 3 k w.losses lk (omega (arith, long r 2 k w.transfers lk, l))
+  sent_losses = ap (λ (p : Placed). p.losses) (written_here r k sent within)
 
-  sent_row : (j v : ℕ) → v ≢ k → entry (sent_to r k w) j v ≡ entry r j v
+  sent_other : (g : ℕ) → g ≢ k → R.placed (sent_to r k w) g ≡ R.placed r g
   unfolding sent_to
-  sent_row j v d = write_row (written r 2 k w.transfers) 3 k w.losses lk j v d ∙ write_row r 2 k w.transfers lk j v d
+  sent_other = written_other r k sent within
 
-  sent_column : (j v : ℕ) → j ≢ 2 → j ≢ 3 → entry (sent_to r k w) j v ≡ entry r j v
+  sent_place : (g : ℕ) → R.place (sent_to r k w) g ≡ R.place r g
   unfolding sent_to
-  sent_column j v d e = write_column (written r 2 k w.transfers) 3 k w.losses lk j v e ∙ write_column r 2 k w.transfers lk j v d
+  sent_place = written_kept r k sent within (λ p. p.place) refl
+
+  sent_event : (g : ℕ) → R.event (sent_to r k w) g ≡ R.event r g
+  unfolding sent_to
+  sent_event = written_kept r k sent within (λ p. number p.event) refl
 
 -- what is written of an inner gene and its children
-module _ (r : List ℕ) (k a b : ℕ) (p : Pair) (l : length r ≡ 512) (lk : k < 128) (la : a < 128) (lb : b < 128) where
-  abbrev r₁ : List ℕ
+module _ (r : List Placed) (k a b : ℕ) (p : Pair) (l : length r ≡ 128) (lk : k < 128) (la : a < 128) (lb : b < 128) where
+  abbrev r₁ : List Placed
   r₁ = seated_by r k p.node p.event
 
-  abbrev r₂ : List ℕ
+  abbrev r₂ : List Placed
   r₂ = sent_to r₁ a p.left
 
-  l₁ : length r₁ ≡ 512
+  l₁ : length r₁ ≡ 128
   l₁ = seated_long r k p.node p.event l lk
 
-  l₂ : length r₂ ≡ 512
+  l₂ : length r₂ ≡ 128
   l₂ = sent_long r₁ a p.left l₁ la
 
-  noted_long : length (noted_by r k a b p) ≡ 512
+  noted_long : length (noted_by r k a b p) ≡ 128
   unfolding noted_by
   noted_long = sent_long r₂ b p.right l₂ lb
 
-  -- the columns of places and events
-  noted_front : (j v : ℕ) → j ≢ 2 → j ≢ 3 → entry (noted_by r k a b p) j v ≡ entry r₁ j v
+  -- places and events
+  front_place : (g : ℕ) → R.place (noted_by r k a b p) g ≡ R.place r₁ g
   unfolding noted_by
-  noted_front j v d e = sent_column r₂ b p.right l₂ lb j v d e ∙ sent_column r₁ a p.left l₁ la j v d e
+  front_place g = sent_place r₂ b p.right l₂ lb g ∙ sent_place r₁ a p.left l₁ la g
+
+  front_event : (g : ℕ) → R.event (noted_by r k a b p) g ≡ R.event r₁ g
+  unfolding noted_by
+  front_event g = sent_event r₂ b p.right l₂ lb g ∙ sent_event r₁ a p.left l₁ la g
 
   noted_place : R.place (noted_by r k a b p) k ≡ p.node
-  noted_place = noted_front 0 k (λ e. omega arith) (λ e. omega arith) ∙ seated_place r k p.node p.event l lk
+  noted_place = front_place k ∙ seated_place r k p.node p.event l lk
 
-  noted_event : R.event (noted_by r k a b p) k ≡ p.event
-  noted_event = noted_front 1 k (λ e. omega arith) (λ e. omega arith) ∙ seated_event r k p.node p.event l lk
+  noted_event : R.event (noted_by r k a b p) k ≡ number p.event
+  noted_event = front_event k ∙ seated_event r k p.node p.event l lk
 
-  noted_before : (j v : ℕ) → j ≢ 2 → j ≢ 3 → v ≢ k → entry (noted_by r k a b p) j v ≡ entry r j v
-  noted_before j v d e n = noted_front j v d e ∙ seated_row r k p.node p.event l lk j v n
+  place_before : (g : ℕ) → g ≢ k → R.place (noted_by r k a b p) g ≡ R.place r g
+  place_before g d = front_place g ∙ ap (λ (x : Placed). x.place) (seated_other r k p.node p.event l lk g d)
 
-  -- those of ways
+  event_before : (g : ℕ) → g ≢ k → R.event (noted_by r k a b p) g ≡ R.event r g
+  event_before g d = front_event g ∙ ap (λ (x : Placed). number x.event) (seated_other r k p.node p.event l lk g d)
+
+  -- ways
   noted_right : (R.transfers (noted_by r k a b p) b ≡ p.right.transfers) × (R.losses (noted_by r k a b p) b ≡ p.right.losses)
   unfolding noted_by
   noted_right = (sent_transfers r₂ b p.right l₂ lb, sent_losses r₂ b p.right l₂ lb)
@@ -167,13 +201,19 @@ module _ (r : List ℕ) (k a b : ℕ) (p : Pair) (l : length r ≡ 512) (lk : k 
   noted_left : a ≢ b → (R.transfers (noted_by r k a b p) a ≡ p.left.transfers) × (R.losses (noted_by r k a b p) a ≡ p.left.losses)
   unfolding noted_by
   noted_left d = (
-    sent_row r₂ b p.right l₂ lb 2 a d ∙ sent_transfers r₁ a p.left l₁ la,
-    sent_row r₂ b p.right l₂ lb 3 a d ∙ sent_losses r₁ a p.left l₁ la,
+    ap (λ (x : Placed). x.transfers) (sent_other r₂ b p.right l₂ lb a d) ∙ sent_transfers r₁ a p.left l₁ la,
+    ap (λ (x : Placed). x.losses) (sent_other r₂ b p.right l₂ lb a d) ∙ sent_losses r₁ a p.left l₁ la,
   )
 
-  noted_other : (j v : ℕ) → j ≢ 0 → j ≢ 1 → v ≢ a → v ≢ b → entry (noted_by r k a b p) j v ≡ entry r j v
+  beside : (g : ℕ) → g ≢ a → g ≢ b → R.placed (noted_by r k a b p) g ≡ R.placed r₁ g
   unfolding noted_by
-  noted_other j v d e na nb = sent_row r₂ b p.right l₂ lb j v nb ∙ sent_row r₁ a p.left l₁ la j v na ∙ seated_column r k p.node p.event l lk j v d e
+  beside g na nb = sent_other r₂ b p.right l₂ lb g nb ∙ sent_other r₁ a p.left l₁ la g na
+
+  transfers_before : (g : ℕ) → g ≢ a → g ≢ b → R.transfers (noted_by r k a b p) g ≡ R.transfers r g
+  transfers_before g na nb = ap (λ (x : Placed). x.transfers) (beside g na nb) ∙ seated_transfers r k p.node p.event l lk g
+
+  losses_before : (g : ℕ) → g ≢ a → g ≢ b → R.losses (noted_by r k a b p) g ≡ R.losses r g
+  losses_before g na nb = ap (λ (x : Placed). x.losses) (beside g na nb) ∙ seated_losses r k p.node p.event l lk g
 
 times : {a b c d : ℕ} → a ≤ c → b ≤ d → a * b ≤ c * d
 times = mul-le-mul
@@ -221,22 +261,22 @@ module _ {h : Header} {t g : List ℕ} (F : Family h t g) where
   parent_low : (j : ℕ) → G.count < G.parent j → ⊥
   parent_low j l = omega (arith, (parent_gene G F.rooted j (λ e. omega arith)).1)
 
-  pub upto_start : {r : List ℕ} → Lent G r → Upto T G (costs h) h.genes r (record { duplications = 0; transfers = 0; losses = 0; cost = 0 })
+  pub upto_start : {r : List Placed} {s : Score} → Lent G r → (s.duplications ≡ 0) × ((s.transfers ≡ 0) × ((s.losses ≡ 0) × (s.cost ≡ 0))) → Upto T G (costs h) h.genes r s
   unfolding duplication_count transfer_count loss_count count of_children gene_tree
-  upto_start l = record {
+  upto_start l z = record {
     lent = l;
     places = λ j a b. absurd (omega arith);
     events = λ j a b. absurd (omega arith);
     ways = λ j a. absurd (parent_low j a);
     lost = λ j a. absurd (parent_low j a);
-    duplications = down_start _ G.count;
-    transferred = down_start _ G.count ∙ by_parents G F.rooted (transfers T G) (λ j e. root_transfers T G j e);
-    given_up = down_start _ G.count ∙ by_parents G F.rooted (losses T G) (λ j e. root_losses T G j e);
-    cost = omega arith;
+    duplications = rw z.0 (down_start _ G.count);
+    transferred = rw z.1.0 (down_start _ G.count) ∙ by_parents G F.rooted (transfers T G) (λ j e. root_transfers T G j e);
+    given_up = rw z.1.1.0 (down_start _ G.count) ∙ by_parents G F.rooted (losses T G) (λ j e. root_losses T G j e);
+    cost = rw (z.0, z.1.1.1) (sym (mul-zero h.duplication));
   }
 
   -- gene k is next
-  module _ {k : ℕ} (low : 1 ≤ k) (high : k ≤ h.genes) {r : List ℕ} {s : Score} (u : Upto T G (costs h) k r s) where
+  module _ {k : ℕ} (low : 1 ≤ k) (high : k ≤ h.genes) {r : List Placed} {s : Score} (u : Upto T G (costs h) k r s) where
     lk : k < 128
     lk = omega (arith, F.limits.few_genes)
 
@@ -319,7 +359,7 @@ module _ {h : Header} {t g : List ℕ} (F : Family h t g) where
         node_is : p.node ≡ place T G k
         node_is = i.node ∙ meets
 
-        event_is : p.event ≡ event T G k
+        event_is : number p.event ≡ event T G k
         unfolding event_by
         event_is = i.event ∙ rw (meets, place_a, place_b) (sym (event_inner T G k d))
 
@@ -360,31 +400,31 @@ module _ {h : Header} {t g : List ℕ} (F : Family h t g) where
           cost = cost_few;
         }
 
-        noted : (v : List ℕ) → v ≡ noted_by r k a b p → Upto T G (costs h) (k - 1) v (raised_by h s p)
+        noted : (v : List Placed) → v ≡ noted_by r k a b p → Upto T G (costs h) (k - 1) v (raised_by h s p)
         unfolding raised_by
         noted v q = rw q (record {
           lent = record {
             long = noted_long r k a b p l lk la lb;
-            leaf_places = λ j x y e. noted_before r k a b p l lk la lb 0 j (λ q. omega arith) (λ q. omega arith) (inner j e) ∙ u.lent.leaf_places j x y e;
-            leaf_events = λ j x y e. noted_before r k a b p l lk la lb 1 j (λ q. omega arith) (λ q. omega arith) (inner j e) ∙ u.lent.leaf_events j x y e;
-            no_transfers = λ j e. other 2 j e (λ x. omega arith) (λ x. omega arith) ∙ u.lent.no_transfers j e;
-            no_losses = λ j e. other 3 j e (λ x. omega arith) (λ x. omega arith) ∙ u.lent.no_losses j e;
+            leaf_places = λ j x y e. place_before r k a b p l lk la lb j (inner j e) ∙ u.lent.leaf_places j x y e;
+            leaf_events = λ j x y e. event_before r k a b p l lk la lb j (inner j e) ∙ u.lent.leaf_events j x y e;
+            no_transfers = λ j e. transfers_before r k a b p l lk la lb j (not_a j e) (not_b j e) ∙ u.lent.no_transfers j e;
+            no_losses = λ j e. losses_before r k a b p l lk la lb j (not_a j e) (not_b j e) ∙ u.lent.no_losses j e;
           };
           places = λ j x y. by_eq j k (λ e. rw e (noted_place r k a b p l lk la lb ∙ node_is))
-              (λ n. noted_before r k a b p l lk la lb 0 j (λ e. omega arith) (λ e. omega arith) n ∙ u.places j (omega arith) y);
+              (λ n. place_before r k a b p l lk la lb j n ∙ u.places j (omega arith) y);
           events = λ j x y. by_eq j k (λ e. rw e (noted_event r k a b p l lk la lb ∙ event_is))
-              (λ n. noted_before r k a b p l lk la lb 1 j (λ e. omega arith) (λ e. omega arith) n ∙ u.events j (omega arith) y);
+              (λ n. event_before r k a b p l lk la lb j n ∙ u.events j (omega arith) y);
           ways = λ j x. way (R.transfers (noted_by r k a b p)) (transfers T G) j x ((noted_left r k a b p l lk la lb apart).0 ∙ left_way.0) ((noted_right r k a b p l lk la lb).0 ∙ right_way.0)
-              (λ na nb y. noted_other r k a b p l lk la lb 2 j (λ e. omega arith) (λ e. omega arith) na nb ∙ u.ways j y);
+              (λ na nb y. transfers_before r k a b p l lk la lb j na nb ∙ u.ways j y);
           lost = λ j x. way (R.losses (noted_by r k a b p)) (losses T G) j x ((noted_left r k a b p l lk la lb apart).1 ∙ left_way.1) ((noted_right r k a b p l lk la lb).1 ∙ right_way.1)
-              (λ na nb y. noted_other r k a b p l lk la lb 3 j (λ e. omega arith) (λ e. omega arith) na nb ∙ u.lost j y);
+              (λ na nb y. losses_before r k a b p l lk la lb j na nb ∙ u.lost j y);
           duplications = down_turn _ k s.duplications _ _ low u.duplications (rw event_is);
           transferred = down_turn _ k s.transfers _ _ low u.transferred more_transfers;
           given_up = down_turn _ k s.losses _ _ low u.given_up more_losses;
           cost = charged;
         })
           where
-            l : length r ≡ 512
+            l : length r ≡ 128
             l = u.lent.long
 
             la : a < 128
@@ -401,9 +441,11 @@ module _ {h : Header} {t g : List ℕ} (F : Family h t g) where
             inner j e q = d (ap G.left (sym q) ∙ e)
 
             -- a gene without parent is no child of k
-            other : (c j : ℕ) → G.parent j ≡ 0 → c ≢ 0 → c ≢ 1 → entry (noted_by r k a b p) c j ≡ entry r c j
-            other c j e x y = noted_other r k a b p l lk la lb c j x y
-                (λ q. z (sym (F.rooted.left_parent k d) ∙ ap G.parent (sym q) ∙ e)) (λ q. z (sym (F.rooted.right_parent k d) ∙ ap G.parent (sym q) ∙ e))
+            not_a : (j : ℕ) → G.parent j ≡ 0 → j ≢ a
+            not_a j e q = z (sym (F.rooted.left_parent k d) ∙ ap G.parent (sym q) ∙ e)
+
+            not_b : (j : ℕ) → G.parent j ≡ 0 → j ≢ b
+            not_b j e q = z (sym (F.rooted.right_parent k d) ∙ ap G.parent (sym q) ∙ e)
 
             -- the ways of k's children, and those of other genes' children
             way : (f w : ℕ → ℕ) (j : ℕ) → k - 1 < G.parent j → f a ≡ w a → f b ≡ w b → (j ≢ a → j ≢ b → k < G.parent j → f j ≡ w j) → f j ≡ w j
@@ -416,10 +458,10 @@ module _ {h : Header} {t g : List ℕ} (F : Family h t g) where
                     pick q (inl e) = na (sym e ∙ ap G.left q)
                     pick q (inr e) = nb (sym e ∙ ap G.right q)
 
-            charged : s.cost + h.duplication * tally (same p.event 2) ≡ (costs h).duplication * (s.duplications + tally (same p.event 2))
-            charged = sym (mul-add (costs h).duplication s.duplications (tally (same p.event 2)) ∙ rw (← u.cost))
+            charged : s.cost + h.duplication * tally (same (number p.event) 2) ≡ (costs h).duplication * (s.duplications + tally (same (number p.event) 2))
+            charged = sym (mul-add (costs h).duplication s.duplications (tally (same (number p.event) 2)) ∙ rw (← u.cost))
 
-        pub upto_inner : (v : List ℕ) (e : Score) → v ≡ noted_by r k a b p → e ≡ raised_by h s p → Upto T G (costs h) (k - 1) v e
+        pub upto_inner : (v : List Placed) (e : Score) → v ≡ noted_by r k a b p → e ≡ raised_by h s p → Upto T G (costs h) (k - 1) v e
         upto_inner v e q x = rw x (noted v q)
 
     -- the same with the numbers as the code has them
@@ -450,11 +492,11 @@ module _ {h : Header} {t g : List ℕ} (F : Family h t g) where
           pub inner_room : Room h s p
           inner_room = room (left_some d) p j
 
-          pub inner_turn : {x : List ℕ} {e : Score} → x ≡ noted_by r k a b p → e ≡ raised_by h s p → Upto T G (costs h) (k - 1) x e
+          pub inner_turn : {x : List Placed} {e : Score} → x ≡ noted_by r k a b p → e ≡ raised_by h s p → Upto T G (costs h) (k - 1) x e
           inner_turn {x} {e} q w = upto_inner (left_some d) p j x e (rw (a_is, b_is) at q) w
 
   -- after the last gene
-  module _ {r : List ℕ} {s : Score} {k : ℕ} (none : k ≤ 0) (u : Upto T G (costs h) k r s) where
+  module _ {r : List Placed} {s : Score} {k : ℕ} (none : k ≤ 0) (u : Upto T G (costs h) k r s) where
     done_duplications : s.duplications ≡ duplication_count T G
     done_duplications = down_done _ k s.duplications _ none u.duplications
 

@@ -1,4 +1,4 @@
 pub mod Meeting
-pub mod Fields
+pub mod Products
 pub mod Pairing
 pub mod Evaluating

@@ -1,7 +1,7 @@
 -- The turns of the loop in which two climbers meet, over the table. What the climbers have added up and what lies ahead of them make up their whole ways,
 -- so that nothing added up is more than a whole way, which has no more arcs than there are nodes.
 -- Assumes nothing.
-use mathlib.Core.Path.{◌≡◌, refl, sym, ◌∙◌, ap}
+use mathlib.Core.Path.{◌≡◌, sym, ◌∙◌, ap}
 use mathlib.Core.Logic.{◌≢◌}
 use mathlib.Core.Bool.{true}
 use mathlib.Core.List.{List}
@@ -26,8 +26,8 @@ unfolding fork_in
 fork_le t v = tally_le (same (arcs t v) 2)
 
 -- no arc is climbed yet
-abbrev pub still : Way
-still = record { transfers = 0; losses = 0; last = 0 }
+abbrev pub Still : Way → Type 0
+Still w = (w.transfers ≡ 0) × ((w.losses ≡ 0) × (w.last ≡ 0))
 
 -- the climbers of x and y stand at a and b, whose ranks are p and q
 pub record Climbing (T : Displayed) (t : List ℕ) (x y a b : ℕ) (l r : Way) (p q : ℕ) : Type 0 where
@@ -74,15 +74,15 @@ module _ {n : ℕ} {t : List ℕ} {x y : ℕ} (K : Climbable n t) (kx : NodeOf (
   ok : Tree T
   ok = K.tree
 
-  pub climbing_start : {p q : ℕ} → p ≡ rank t x → q ≡ rank t y → Climbing T t x y x y still still p q
-  climbing_start ep eq = record {
-    climbs = M.meet_start T ok x y kx ky;
+  pub climbing_start : {l r : Way} {p q : ℕ} → Still l → Still r → p ≡ rank t x → q ≡ rank t y → Climbing T t x y x y l r p q
+  climbing_start zl zr ep eq = record {
+    climbs = rw (zl.1.1, zr.1.1) (M.meet_start T ok x y kx ky);
     left_rank = ep;
     right_rank = eq;
-    left_transfers = omega arith;
-    left_losses = omega arith;
-    right_transfers = omega arith;
-    right_losses = omega arith;
+    left_transfers = omega (arith, zl.0);
+    left_losses = omega (arith, zl.1.0);
+    right_transfers = omega (arith, zr.0);
+    right_losses = omega (arith, zr.1.0);
   }
 
   -- a whole way has at most n transfers and n losses
@@ -145,8 +145,8 @@ module _ {n : ℕ} {t : List ℕ} {x y : ℕ} (K : Climbable n t) (kx : NodeOf (
       turn : (v : ℕ) → v ≡ up t a → M.Climb T x y v b a r.last
       turn v e = M.turn_left T ok x y a b l.last r.last kx ky c.climbs v lower d (e ∙ sym (up_is n t K a ka))
 
-      pub climbs_left : (a ≤ 127) × (up t a ≤ 127) × (lateral t a ≤ 1) × (arcs t (up t a) ≤ 2) × Light l
-      climbs_left = let f = node_few n t K a ka in (f.0, f.1, f.2, K.few_arcs (up t a) (turn (up t a) refl).left.node, left_light)
+      pub climbs_left : (a ≤ 127) × (up t a ≤ 127) × (lateral t a ≤ 1) × Light l
+      climbs_left = let f = node_few n t K a ka in (f.0, f.1, f.2, left_light)
 
       pub climbing_left : {w : Way} {v k : ℕ} → w ≡ climbed_by t l a → v ≡ up t a → k ≡ rank t v → Climbing T t x y v b w r k q
       unfolding climbed_by
@@ -173,8 +173,8 @@ module _ {n : ℕ} {t : List ℕ} {x y : ℕ} (K : Climbable n t) (kx : NodeOf (
       turn' : (v : ℕ) → v ≡ up t b → M.Climb T x y a v l.last b
       turn' v e = M.turn_right T ok x y a b l.last r.last kx ky c.climbs v higher (e ∙ sym (up_is n t K b kb))
 
-      pub climbs_right : (b ≤ 127) × (up t b ≤ 127) × (lateral t b ≤ 1) × (arcs t (up t b) ≤ 2) × Light r
-      climbs_right = let f = node_few n t K b kb in (f.0, f.1, f.2, K.few_arcs (up t b) (turn' (up t b) refl).right.node, right_light)
+      pub climbs_right : (b ≤ 127) × (up t b ≤ 127) × (lateral t b ≤ 1) × Light r
+      climbs_right = let f = node_few n t K b kb in (f.0, f.1, f.2, right_light)
 
       pub climbing_right : {w : Way} {v k : ℕ} → w ≡ climbed_by t r b → v ≡ up t b → k ≡ rank t v → Climbing T t x y a v l w p k
       unfolding climbed_by

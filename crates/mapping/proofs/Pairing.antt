@@ -11,7 +11,9 @@ use Rattle.finite.specs.Tests.{same}
 use Rattle.finite.proofs.Cases.{by_eq, by_bool, clash}
 use Rattle.finite.proofs.Tests.{is_same, not_same, and_yes}
 use Rattle.topology.proofs.Climbing.{meet_spec, meet_over_left, meet_over_right}
+use Rattle.layout.specs.Events.{number}
 use Rattle.layout.specs.inner.Tree.{up, lateral}
+use Rattle.layout.specs.declared.events.Event.{Event}
 use Rattle.displayed.specs.Displayed.{Displayed, NodeOf, Tree, reaches, common, departure}
 use Rattle.displayed.specs.Mapping.{sends}
 use Rattle.displayed.specs.inner.Arcs.{mark}
@@ -61,15 +63,14 @@ module _ {n : ℕ} {t : List ℕ} {x y : ℕ} (K : Climbable n t) (kx : NodeOf (
     last_mark : z ≢ b → fork_in t (up t (departure T b z)) ≡ mark T (departure T b z)
     last_mark d = mark_is n t K _ (departure_node T ok b z kz over d)
 
-    passable : (w : Way) (event : ℕ) → IsWay T b z w → (event ≢ 2 → z ≢ b) → Passable t event w
+    passable : (w : Way) (event : Event) → IsWay T b z w → (number event ≢ 2 → z ≢ b) → Passable t event w
     passable w event i h = record {
       inside = rw i.last last_few;
       upper = omega (arith, K.ups w.last, K.few);
-      few_arcs = λ d. rw i.last (K.few_arcs _ (rw (← up_is n t K _ (departure_node T ok b z kz over (h d)), (departing T ok b z over (h d)).from) (common_node T ok x y kx ky)));
       added = λ d. rw (i.last, last_mark (h d), i.losses) (depart_le T ok b (mark T) z over (h d));
     }
 
-    passes : (w : Way) (event : ℕ) (here : Bool) (s : Steps) → IsWay T b z w → same event 2 ≡ here → (here ≡ false → z ≢ b) → s ≡ passed_by t event w → IsSteps T here b z s
+    passes : (w : Way) (event : Event) (here : Bool) (s : Steps) → IsWay T b z w → same (number event) 2 ≡ here → (here ≡ false → z ≢ b) → s ≡ passed_by t event w → IsSteps T here b z s
     unfolding passed_by
     passes w event here s i e h q = rw (q, e) (record {
       transfers = i.transfers;
@@ -160,8 +161,8 @@ module _ {n : ℕ} {t : List ℕ} {x y : ℕ} (K : Climbable n t) (kx : NodeOf (
     pub lasts_few : (met.left.last ≤ 127) × (met.right.last ≤ 127)
     lasts_few = (rw i.left.last (last_few x kx over_x), rw i.right.last (last_few y ky over_y))
 
-    module _ (sent : Bool) {event : ℕ} (ee : event ≡ event_by sent met.node x y) where
-      here : same event 2 ≡ (same x b || same y b)
+    module _ (sent : Bool) (event : Event) (ee : number event ≡ event_by sent met.node x y) where
+      here : same (number event) 2 ≡ (same x b || same y b)
       here = rw (ee, i.node) (stays_or_not sent b x y)
 
       not_left : (same x b || same y b) ≡ false → x ≢ b
@@ -174,7 +175,7 @@ module _ {n : ℕ} {t : List ℕ} {x y : ℕ} (K : Climbable n t) (kx : NodeOf (
           any true = refl
           any false = refl
 
-      apart : event ≢ 2 → (same x b || same y b) ≡ false
+      apart : number event ≢ 2 → (same x b || same y b) ≡ false
       apart d = sym here ∙ not_same d
 
       pub passable_left : Passable t event met.left

@@ -2,26 +2,27 @@
 // place, its event, and the transfers and losses on both ways.
 #![tactic(auto)]
 
-ghost use Rattle.std.specs.Prelude.{◌≡◌, ℕ, ◌+◌, ◌-◌, ◌≤◌, ◌<◌};
+ghost use Rattle.std.specs.Prelude.{◌≡◌, ℕ, ◌-◌, ◌≤◌};
 ghost use Rattle.finite.specs.Tests.{same, tally};
-ghost use Rattle.tables.specs.Columns.{blank};
-ghost use Rattle.layout.specs.inner.Tree.{up as up_in, lateral as lateral_in, arcs as arcs_in};
-ghost use Rattle.layout.specs.inner.Genes.{left as left_in, leaf as leaf_in, gene_tree};
-ghost use Rattle.layout.specs.inner.Results.{place as place_in};
+ghost use Rattle.layout.specs.Events.{number};
 ghost use Rattle.layout.specs.Headers.{costs};
+ghost use Rattle.layout.specs.inner.Tree.{up as up_in, lateral as lateral_in};
+ghost use Rattle.layout.specs.inner.Genes.{left as left_in, leaf as leaf_in, gene_tree};
+ghost use Rattle.layout.specs.inner.Results.{place as place_in, blank};
 ghost use Rattle.displayed.specs.Displayed.{NodeOf};
 ghost use Rattle.mapping.specs.inner.Climbs.{fork_in, tree_of, Climbable, Light, climbed_by, Meeting};
 ghost use Rattle.mapping.specs.inner.Pairs.{sent_by, event_by, Passable, passed_by, Paired};
 ghost use Rattle.mapping.specs.inner.Evaluation.{Family, Seats, seated_by, sent_to, noted_by, Room, raised_by, Upto, Counted, total_of, score_of, LeavesUpto, Lent, Evaluated};
 
+use layout::events::Event;
 use layout::genes::Genes;
 use layout::results::Results;
 use layout::tree::{Tree, arcs, lateral, rank, up};
-use layout::{Header, genes, results};
+use layout::{Header, genes};
 
 // A way, climbed from its lower end: the transfers, the losses of a gene that passes every node above its lower end, and the arc climbed last, by its
 // lower end, 0 where none was.
-#[derive(Clone, Copy)]
+#[derive(Clone, Copy, Default)]
 pub struct Way {
     pub transfers: u32,
     pub losses: u32,
@@ -47,13 +48,13 @@ pub struct Steps {
 #[derive(Clone, Copy)]
 pub struct Pair {
     pub node: usize,
-    pub event: u32,
+    pub event: Event,
     pub left: Steps,
     pub right: Steps,
 }
 
 // The events of a gene tree under a switching, and their cost.
-#[derive(Clone, Copy)]
+#[derive(Clone, Copy, Default)]
 pub struct Score {
     pub duplications: u32,
     pub transfers: u32,
@@ -62,24 +63,26 @@ pub struct Score {
 }
 
 // 1 for a node that two on arcs leave.
+#[tactic(auto, unfolding(finite::specs::Tests::same))]
 fn fork(arcs: u32) -> u32
-    requires { arcs ≤ 2 }
     ensures { (result ≡ tally (same arcs 2)) × (result ≤ 1) }
 {
-    arcs / 2
+    u32::from(arcs == 2)
 }
 
 // 1 where coming down the arc into c from a node passed gives up another arc.
+#[tactic(auto, unfolding(crate::specs::inner::Climbs::fork_in))]
 fn mark(t: &Tree, c: usize) -> u32
-    requires { (c ≤ 127) × (up_in t.now c ≤ 127) × (arcs_in t.now (up_in t.now c) ≤ 2) }
+    requires { (c ≤ 127) × (up_in t.now c ≤ 127) }
     ensures { (result ≡ fork_in t.now (up_in t.now c)) × (result ≤ 1) }
 {
     fork(arcs(t, up(t, c)))
 }
 
 // The way once the arc into a is climbed too.
+#[tactic(auto, unfolding(crate::specs::inner::Climbs::climbed_by))]
 fn climb(t: &Tree, w: Way, a: usize) -> Way
-    requires { (a ≤ 127) × (up_in t.now a ≤ 127) × (lateral_in t.now a ≤ 1) × (arcs_in t.now (up_in t.now a) ≤ 2) × Light w }
+    requires { (a ≤ 127) × (up_in t.now a ≤ 127) × (lateral_in t.now a ≤ 1) × Light w }
     ensures { result ≡ climbed_by t.now w a }
 {
     Way {
@@ -96,16 +99,8 @@ fn meet(n: usize, t: &Tree, x: usize, y: usize) -> Met
 {
     let mut a = x;
     let mut b = y;
-    let mut left = Way {
-        transfers: 0,
-        losses: 0,
-        last: 0,
-    };
-    let mut right = Way {
-        transfers: 0,
-        losses: 0,
-        last: 0,
-    };
+    let mut left = Way::default();
+    let mut right = Way::default();
     let mut p = rank(t, x);
     let mut q = rank(t, y);
     while a != b {
@@ -121,52 +116,48 @@ fn meet(n: usize, t: &Tree, x: usize, y: usize) -> Met
     }
     Met {
         node: a,
-        left: left,
-        right: right,
+        left,
+        right,
     }
 }
 
 // Whether one of the two arcs is secondary.
+#[tactic(auto, unfolding(crate::specs::inner::Pairs::sent_by, finite::specs::Tests::same))]
 fn sends(t: &Tree, c: usize, d: usize) -> bool
     requires { (c ≤ 127) × (d ≤ 127) }
     ensures { result ≡ sent_by t.now c d }
 {
-    if lateral(t, c) == 1 {
-        return true;
-    }
-    lateral(t, d) == 1
+    lateral(t, c) == 1 || lateral(t, d) == 1
 }
 
 // The event of a gene at b whose children sit at x and y: duplication where one sits at b, else transfer where an arc that they leave by is secondary.
-fn event(sent: bool, b: usize, x: usize, y: usize) -> u32
-    ensures { result ≡ event_by sent b x y }
+#[tactic(auto, using(finite::proofs::Tests::test_laws), unfolding(crate::specs::inner::Pairs::event_by))]
+fn event(sent: bool, b: usize, x: usize, y: usize) -> Event
+    ensures { number result ≡ event_by sent b x y }
 {
-    if x == b {
-        return 2;
+    if x == b || y == b {
+        Event::Duplication
+    } else if sent {
+        Event::Transfer
+    } else {
+        Event::Speciation
     }
-    if y == b {
-        return 2;
-    }
-    if sent {
-        return 3;
-    }
-    1
 }
 
 // The transfers and losses on the way of a child: below a gene that is no duplication that gene's node is not passed.
-fn steps_of(t: &Tree, event: u32, w: Way) -> Steps
+#[tactic(auto, using(finite::proofs::Tests::test_laws), unfolding(crate::specs::inner::Pairs::passed_by))]
+fn steps_of(t: &Tree, event: Event, w: Way) -> Steps
     requires { Passable t.now event w }
     ensures { result ≡ passed_by t.now event w }
 {
-    if event == 2 {
-        return Steps {
-            transfers: w.transfers,
-            losses: w.losses,
-        };
-    }
+    let passed = if event == Event::Duplication {
+        0
+    } else {
+        mark(t, w.last)
+    };
     Steps {
         transfers: w.transfers,
-        losses: w.losses - mark(t, w.last),
+        losses: w.losses - passed,
     }
 }
 
@@ -175,81 +166,76 @@ fn pair_of(n: usize, t: &Tree, x: usize, y: usize) -> Pair
     requires { Climbable n t.now × NodeOf (tree_of n t.now) x × NodeOf (tree_of n t.now) y }
     ensures { Paired (tree_of n t.now) x y result }
 {
-    let met = meet(n, t, x, y);
-    let b = met.node;
-    let left = met.left;
-    let right = met.right;
-    let code = event(sends(t, left.last, right.last), b, x, y);
+    let Met { node, left, right } = meet(n, t, x, y);
+    let event = event(sends(t, left.last, right.last), node, x, y);
     Pair {
-        node: b,
-        event: code,
-        left: steps_of(t, code, left),
-        right: steps_of(t, code, right),
+        node,
+        event,
+        left: steps_of(t, event, left),
+        right: steps_of(t, event, right),
     }
 }
 
 // One pair more: the event chooses which count is raised and what is charged at the gene; what is on the ways is counted there.
+#[tactic(auto, unfolding(crate::specs::inner::Evaluation::raised_by, finite::specs::Tests::same))]
 fn raise(h: Header, s: Score, p: Pair) -> Score
     requires { Room h s p }
     ensures { result ≡ raised_by h s p }
 {
-    let event = p.event;
-    let left = p.left;
-    let right = p.right;
     let mut r = s;
-    r.transfers += left.transfers + right.transfers;
-    r.losses += left.losses + right.losses;
-    match event {
-        0 => r,
-        1 => r,
-        2 => {
+    r.transfers += p.left.transfers + p.right.transfers;
+    r.losses += p.left.losses + p.right.losses;
+    match p.event {
+        Event::LeafGene => r,
+        Event::Speciation => r,
+        Event::Duplication => {
             r.duplications += 1;
             r.cost += h.duplication;
             r
         }
-        3 => r,
-        _ => r,
+        Event::Transfer => r,
     }
 }
 
 // Notes where gene k sits, and its event.
-fn seat(r: &mut Results, k: usize, node: usize, event: u32)
+#[tactic(auto, unfolding(crate::specs::inner::Evaluation::seated_by))]
+fn seat(r: &mut Results, k: usize, node: usize, event: Event)
     requires { (k ≤ 127) × (node ≤ 127) }
     ensures { r.new ≡ seated_by r.old k node event }
 {
-    tables::put(r, results::PLACE, k, node as u32);
-    tables::put(r, results::EVENT, k, event);
+    let gene = &mut r[k];
+    gene.place = node as u32;
+    gene.event = event;
 }
 
 // Notes the transfers and losses on the way of gene k.
+#[tactic(auto, unfolding(crate::specs::inner::Evaluation::sent_to))]
 fn send(r: &mut Results, k: usize, w: Steps)
     requires { k ≤ 127 }
     ensures { r.new ≡ sent_to r.old k w }
 {
-    tables::put(r, results::TRANSFERS, k, w.transfers);
-    tables::put(r, results::LOSSES, k, w.losses);
+    let gene = &mut r[k];
+    gene.transfers = w.transfers;
+    gene.losses = w.losses;
 }
 
-// Gene k + 1, where it is a leaf gene, is seated.
+// Gene k, where it is a leaf gene, is seated.
 fn seat_leaf(g: &Genes, r: &mut Results, k: usize)
-    requires { (k < 127) × (left_in g.now (k + 1) ≡ 0 → leaf_in g.now (k + 1) ≤ 127) × LeavesUpto g.now k r.old }
-    ensures { LeavesUpto g.now (k + 1) r.new }
+    requires { (1 ≤ k) × (k ≤ 127) × (left_in g.now k ≡ 0 → leaf_in g.now k ≤ 127) × LeavesUpto g.now (k - 1) r.old }
+    ensures { LeavesUpto g.now k r.new }
 {
-    let j = k + 1;
-    if genes::left(g, j) == 0 {
-        seat(r, j, genes::leaf(g, j), 0);
+    if genes::left(g, k) == 0 {
+        seat(r, k, genes::leaf(g, k), Event::LeafGene);
     }
 }
 
-// A leaf gene sits at its leaf and has the event 0 under every switching: noted once, before the first.
+// A leaf gene sits at its leaf and has the event of a leaf gene under every switching: noted once, before the first.
 pub fn seat_leaves(m: usize, g: &Genes, r: &mut Results)
     requires { (m ≤ 127) × ((k : ℕ) → 1 ≤ k → k ≤ m → left_in g.now k ≡ 0 → leaf_in g.now k ≤ 127) × (r.old ≡ blank) }
     ensures { Lent (gene_tree m g.now) r.new }
 {
-    let mut k: usize = 0;
-    while k < m {
+    for k in 1..=m {
         seat_leaf(g, r, k);
-        k += 1;
     }
 }
 
@@ -259,7 +245,7 @@ fn inner(n: usize, t: &Tree, r: &mut Results, k: usize, a: usize, b: usize) -> P
     ensures paired { Paired (tree_of n t.now) (place_in r.old a) (place_in r.old b) result }
     ensures results { r.new ≡ noted_by r.old k a b result }
 {
-    let p = pair_of(n, t, results::place(r, a), results::place(r, b));
+    let p = pair_of(n, t, r[a].place as usize, r[b].place as usize);
     seat(r, k, p.node, p.event);
     send(r, a, p.left);
     send(r, b, p.right);
@@ -282,6 +268,7 @@ fn gene(h: Header, t: &Tree, g: &Genes, r: &mut Results, k: usize, s: Score) -> 
 }
 
 // With what the transfers and losses cost.
+#[tactic(auto, using(crate::proofs::Products::transfers_fit, crate::proofs::Products::losses_fit), unfolding(crate::specs::inner::Evaluation::total_of))]
 fn total(h: Header, s: Score) -> Score
     requires { Counted h s }
     ensures { result ≡ total_of h s }
@@ -297,16 +284,9 @@ pub fn evaluate(h: Header, t: &Tree, g: &Genes, r: &mut Results) -> Score
     ensures score { result ≡ score_of (tree_of h.nodes t.now) (gene_tree h.genes g.now) (costs h) }
     ensures evaluated { Evaluated (tree_of h.nodes t.now) (gene_tree h.genes g.now) r.new }
 {
-    let mut s = Score {
-        duplications: 0,
-        transfers: 0,
-        losses: 0,
-        cost: 0,
-    };
-    let mut k = h.genes;
-    while 0 < k {
+    let mut s = Score::default();
+    for k in (1..=h.genes).rev() {
         s = gene(h, t, g, r, k, s);
-        k -= 1;
     }
     total(h, s)
 }

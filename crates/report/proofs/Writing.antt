@@ -1,9 +1,9 @@
 -- The turns of the loops that write lines one after the other: a line put behind those written so far is one line more (`lines_turn`), and as
 -- many lines as pass the test take that many times 31 bytes (`length_lines`).
 -- Assumes nothing.
-use Prim.Native.Nat.{ℕ, zero, suc, ◌+◌, ◌*◌, ◌≤◌, ◌<◌}
-use mathlib.Core.Path.{◌≡◌, refl, sym, ap, ◌∙◌}
-use mathlib.Core.Logic.{◌≢◌}
+use Prim.Native.Nat.{ℕ, zero, suc, ◌+◌, ◌-◌, ◌*◌, ◌≤◌, ◌<◌}
+use Rattle.std.specs.Prelude.{Option, Some, IfSome}
+use mathlib.Core.Path.{◌≡◌, refl, sym, ap, ◌∙◌, subst}
 use mathlib.Core.Bool.{Bool, true, false, cond}
 use mathlib.Core.List.{List, [], ◌++◌}
 use lib.ListN.{length, get_or, length-append}
@@ -11,7 +11,6 @@ use native.Mathlib.Numerals.{add-one}
 use native.Mathlib.Omega.{arith}
 use Rattle.finite.specs.Tests.{tally}
 use Rattle.finite.specs.Range.{count}
-use Rattle.finite.proofs.Tests.{is_same, not_same}
 use Rattle.finite.proofs.Sum.{sum_suc, sum_more, sum_range_le, sum_zero_range}
 use Rattle.columns.specs.Writing.{put, written}
 use Rattle.text_lines.specs.Lines.{line_length, line_of, Small}
@@ -19,18 +18,18 @@ use Rattle.text_lines.proofs.Lines.{length_line}
 use Rattle.columns.proofs.Writing.{put_put, put_written, put_nil, put_front, length_put}
 use Rattle.topology.specs.Networks.{is_reticulation}
 use Rattle.topology.specs.Lines.{network}
-use Rattle.layout.specs.Lines.{secondary}
-use Rattle.layout.specs.inner.Tree.{up, lateral}
-use Rattle.layout.specs.inner.Parts.{top, reticulation_count}
-use Rattle.layout.specs.inner.Results.{place, event, transfers, losses}
+use Rattle.layout.specs.inner.Parts.{top}
 use Rattle.layout.proofs.Numbered.{secondary_in}
+use Rattle.layout.specs.declared.results.Placed.{Placed}
 use Rattle.report.specs.declared.Totals.{Totals}
-use Rattle.report.specs.inner.Tables.{has_secondary, reticulation_in, SmallNode, SmallGene}
-use Rattle.report.specs.Reports.{five_of, totals_lines, lines_where, always, reticulation_fields, gene_fields, report_of, report_length, SmallFive, Appended, Extended}
+use Rattle.report.specs.inner.Tables.{has_secondary, reticulation_in, reticulation_numbers, node_line, gene_numbers, SmallNode, SmallGene}
+use Rattle.report.specs.inner.Written.{line_bytes, Telling, Told}
+use Rattle.finite.proofs.Cases.{by_bool}
+use Rattle.report.specs.Reports.{five_of, totals_lines, lines_where, always, reticulation_fields, gene_fields, report_of, report_length, SmallFive, SmallTotals, Appended, Extended}
 
 -- five numbers that have fields
-pub small_five : (a b c d e : ℕ) (ns : List ℕ) → ns ≡ five_of a b c d e → SmallFive a b c d e → Small ns
-small_five a b c d e ns q h = rw q (record { small = at_each })
+pub small_five : (a b c d e : ℕ) → SmallFive a b c d e → Small (five_of a b c d e)
+small_five a b c d e h = record { small = at_each }
   where
     at_each : (i : ℕ) → get_or (five_of a b c d e) i 0 < 1000000
     at_each zero = h.one
@@ -40,47 +39,22 @@ small_five a b c d e ns q h = rw q (record { small = at_each })
     at_each (suc (suc (suc (suc zero)))) = h.five
     at_each (suc (suc (suc (suc (suc i))))) = omega arith
 
-pub five_written : (d e : List ℕ) (start r a b c f g : ℕ) (ns : List ℕ) → ns ≡ five_of a b c f g → e ≡ put d start (line_of ns) → r ≡ start + line_length
-    → Appended d e start r true (five_of a b c f g)
-five_written d e start r a b c f g ns q h k = record { bytes = h ∙ rw q; after = k }
-
--- the numbers of a line are those of the tables
-pub five_as : (d e : List ℕ) (start r k a b c f a₂ b₂ c₂ f₂ : ℕ) → a ≡ a₂ → b ≡ b₂ → c ≡ c₂ → f ≡ f₂ → Appended d e start r true (five_of k a b c f)
-    → Appended d e start r true (five_of k a₂ b₂ c₂ f₂)
-five_as d e start r k a b c f a₂ b₂ c₂ f₂ ea eb ec ef w = rw (← ea, ← eb, ← ec, ← ef) w
-
-pub small_node : (tree parts : List ℕ) (v a b c f : ℕ) → v ≤ 127 → SmallNode tree parts v → a ≡ up tree v → b ≡ lateral tree v → c ≡ top parts v → f ≡ reticulation_count parts (top parts v)
-    → SmallFive v a b c f
-small_node tree parts v a b c f u s ea eb ec ef = record {
-  one = omega arith;
-  two = omega (arith, s.taken);
-  three = omega (arith, s.second);
-  four = omega (arith, s.top_row);
-  five = omega (arith, s.count);
-}
-
-pub count_at : (parts : List ℕ) (v c f : ℕ) → c ≡ top parts v → f ≡ reticulation_count parts c → f ≡ reticulation_count parts (top parts v)
-count_at parts v c f ec ef = ef ∙ ap (reticulation_count parts) ec
-
-pub small_gene : (results : List ℕ) (g a b c f : ℕ) → g ≤ 127 → SmallGene results g → a ≡ place results g → b ≡ event results g → c ≡ transfers results g → f ≡ losses results g
-    → SmallFive g a b c f
-small_gene results g a b c f u s ea eb ec ef = record {
-  one = omega arith;
-  two = omega (arith, s.place);
-  three = omega (arith, s.event);
-  four = omega (arith, s.transfers);
-  five = omega (arith, s.losses);
-}
-
 -- the two lines of totals
-pub totals_written : (d e f : List ℕ) (next r : ℕ) (t : Totals) → Appended d e 0 next true (five_of t.cost t.duplications t.transfers t.losses t.trials)
-    → Appended e f next r true (five_of t.whole t.nodes t.genes t.reticulations t.components) → (f ≡ written d (totals_lines t)) × (r ≡ 2 * line_length)
+module _ (t : Totals) (h : SmallTotals t) where
+  pub first_small : Small (five_of t.cost t.duplications t.transfers t.losses t.trials)
+  first_small = small_five _ _ _ _ _ (record { one = h.cost; two = h.duplications; three = h.transfers; four = h.losses; five = h.trials })
+
+  pub second_small : Small (five_of t.whole t.nodes t.genes t.reticulations t.components)
+  second_small = small_five _ _ _ _ _ (record { one = h.whole; two = h.nodes; three = h.genes; four = h.reticulations; five = h.components })
+
+pub totals_written : (d e f : List ℕ) (next r : ℕ) (t : Totals) → (e ≡ put d 0 (line_of (five_of t.cost t.duplications t.transfers t.losses t.trials))) × (next ≡ line_length)
+    → (f ≡ put e next (line_of (five_of t.whole t.nodes t.genes t.reticulations t.components))) × (r ≡ next + line_length) → (f ≡ written d (totals_lines t)) × (r ≡ 2 * line_length)
 unfolding totals_lines
 totals_written d e f next r t a b =
     let one : List ℕ = line_of (five_of t.cost t.duplications t.transfers t.losses t.trials) in
     let two : List ℕ = line_of (five_of t.whole t.nodes t.genes t.reticulations t.components) in
-    let q : put e next two ≡ put d 0 (one ++ two) = rw a.bytes (put_put d 0 next one two (omega arith) (a.after ∙ rw (length_line (five_of t.cost t.duplications t.transfers t.losses t.trials)))) in
-    (b.bytes ∙ q ∙ put_front d (one ++ two), omega (arith, b.after, a.after))
+    let q : put e next two ≡ put d 0 (one ++ two) = rw a.0 (put_put d 0 next one two (omega arith) (omega (arith, a.1, length_line (five_of t.cost t.duplications t.transfers t.losses t.trials)))) in
+    (b.0 ∙ q ∙ put_front d (one ++ two), omega (arith, b.1, a.1))
 
 -- the bytes of some lines
 length_where : (test : Bool) (fields : List ℕ) → length (cond test (line_of fields) []) ≡ line_length * tally test
@@ -97,23 +71,6 @@ pub count_always : (k : ℕ) → count k always ≡ k
 unfolding count
 count_always zero = sum_zero_range _
 count_always (suc k) = sum_suc k _ ∙ omega (arith, count_always k)
-
--- the two ways of a line that may be written: y is the secondary parent of node v
-module _ (start v y : ℕ) (lines : List ℕ) (e : y ≡ secondary lines v) where
-  pub not_appended : (d fields : List ℕ) → y ≡ 0 → Appended d d start start (has_secondary lines v) fields
-  unfolding has_secondary
-  not_appended d fields z = rw (is_same (sym e ∙ z)) (record { bytes = put_nil d start; after = omega arith })
-
-  module _ (x : y ≢ 0) where
-    has : has_secondary lines v ≡ true
-    unfolding has_secondary
-    has = rw (not_same (λ (z : secondary lines v ≡ 0). x (e ∙ z)))
-
-    pub appended : (d f : List ℕ) (r : ℕ) (fields : List ℕ) → Appended d f start r true fields → Appended d f start r (has_secondary lines v) fields
-    appended d f r fields a = rw has a
-
-    pub has_room : (l : ℕ) → start + line_length * tally (has_secondary lines v) ≤ l → start + line_length ≤ l
-    has_room l h = let t : start + line_length * 1 ≤ l = rw has at h in omega arith
 
 -- one line more
 module _ (test : ℕ → Bool) (fields : ℕ → List ℕ) where
@@ -148,17 +105,70 @@ module _ (test : ℕ → Bool) (fields : ℕ → List ℕ) where
   lines_length d e start next k n h room l = ap length l.bytes ∙ length_put d start (lines_where test fields k)
       (omega (arith, length_lines test fields k, sum_range_le n k (λ v. tally (test v)) h))
 
--- a line for each reticulation: at a node the lines are read where they stand
-module _ (n : ℕ) (lines : List ℕ) (fields : ℕ → List ℕ) (d e : List ℕ) (start next k : ℕ) (h : k < n) (x : Extended d e start next (reticulation_in n lines) fields k) where
-  reticulation_at : has_secondary lines (k + 1) ≡ reticulation_in n lines (k + 1)
-  unfolding has_secondary is_reticulation network
-  reticulation_at = rw (secondary_in n lines (k + 1) (omega arith) (omega arith))
+-- what is told of a number in turn
+module _ (t : Telling) {d e : List ℕ} {start next v n : ℕ} {line : Option (List ℕ)} (low : 1 ≤ v) (high : v ≤ n)
+    (x : Extended d e start next t.test t.fields (v - 1)) (a : Told t v line) where
+  at_v : v - 1 + 1 ≡ v
+  at_v = omega arith
 
-  pub node_room : start + line_length * count n (reticulation_in n lines) ≤ length d → next + line_length * tally (has_secondary lines (k + 1)) ≤ length d
-  node_room room = rw reticulation_at (lines_room (reticulation_in n lines) fields d e start next k n h room x)
+  told_length : length (line_bytes line) ≡ line_length * tally (t.test v)
+  told_length = rw a.is (by_bool (t.test v) (λ y. rw y (length_line (t.fields v))) (λ y. rw y))
 
-  pub node_turn : (f : List ℕ) (r : ℕ) → start ≤ length d → Appended e f next r (has_secondary lines (k + 1)) (fields (k + 1)) → Extended d f start r (reticulation_in n lines) fields (k + 1)
-  node_turn f r room a = lines_turn (reticulation_in n lines) fields d e f start next r k room x (rw reticulation_at at a)
+  told_bytes : line_bytes line ≡ cond (t.test v) (line_of (t.fields v)) []
+  told_bytes = rw a.is (by_bool (t.test v) (λ y. rw y) (λ y. rw y))
+
+  pub told_room : {l : ℕ} → start + line_length * count n t.test ≤ length d → l ≡ length d → (next + length (line_bytes line) ≤ l) × IfSome line Small
+  told_room room q = (omega (arith, rw at_v at (lines_room t.test t.fields d e start next (v - 1) n (omega arith) room x), told_length), a.small)
+
+  pub told_turn : {f : List ℕ} {r : ℕ} → start ≤ length d → (f ≡ put e next (line_bytes line)) × (r ≡ next + length (line_bytes line)) → Extended d f start r t.test t.fields v
+  told_turn {f} {r} room w = rw at_v at (lines_turn t.test t.fields d e f start next r (v - 1) room x
+      (rw at_v (record { bytes = rw (← told_bytes) w.0; after = w.1 ∙ rw told_length })))
+
+pub told_after : (t : Telling) {d e : List ℕ} {start next : ℕ} (v : ℕ) → Extended d e start next t.test t.fields v → Extended d e start next t.test t.fields (v + 1 - 1)
+told_after t {d} {e} {start} {next} v x = let q : v ≡ v + 1 - 1 = omega arith in subst (λ (k : ℕ). Extended d e start next t.test t.fields k) q x
+
+-- the numbers of a node's line and of a gene's have fields
+pub small_node : (tree parts : List ℕ) (v : ℕ) → v ≤ 127 → SmallNode tree parts v → Small (reticulation_numbers tree parts v)
+small_node tree parts v u s = small_five _ _ _ _ _ (record {
+  one = omega arith;
+  two = s.taken;
+  three = s.second;
+  four = omega (arith, s.top_row);
+  five = s.count;
+})
+
+pub small_gene : (results : List Placed) (g : ℕ) → g ≤ 127 → SmallGene results g → Small (gene_numbers results g)
+small_gene results g u s = small_five _ _ _ _ _ (record {
+  one = omega arith;
+  two = omega (arith, s.place);
+  three = omega (arith, s.event);
+  four = omega (arith, s.transfers, s.losses);
+  five = omega (arith, s.transfers, s.losses);
+})
+
+-- at a node the lines are read where they stand
+pub reticulation_at : (n : ℕ) (lines : List ℕ) (v : ℕ) → 1 ≤ v → v ≤ n → has_secondary lines v ≡ reticulation_in n lines v
+unfolding has_secondary is_reticulation network
+reticulation_at n lines v low high = rw (secondary_in n lines v low high)
+
+-- what the two closures tell
+abbrev pub node_lines : ℕ → (lines tree parts : List ℕ) → Telling
+node_lines n lines tree parts = record { test = reticulation_in n lines; fields = reticulation_numbers tree parts }
+
+abbrev pub gene_lines : List Placed → Telling
+gene_lines results = record { test = always; fields = gene_numbers results }
+
+pub node_told : (n : ℕ) (lines tree parts : List ℕ) (v : ℕ) {line : Option (List ℕ)} → 1 ≤ v → v ≤ n → v ≤ 127 → SmallNode tree parts v → line ≡ node_line lines tree parts v
+    → Told (node_lines n lines tree parts) v line
+unfolding node_line
+node_told n lines tree parts v low high few s e = record {
+  is = e ∙ rw (reticulation_at n lines v low high);
+  small = rw e (by_bool (has_secondary lines v) (λ y. rw y (small_node tree parts v few s)) (λ y. rw y tt));
+}
+
+pub gene_told : (results : List Placed) (g : ℕ) {line : Option (List ℕ)} → g ≤ 127 → SmallGene results g → line ≡ Some (gene_numbers results g)
+    → Told (gene_lines results) g line
+gene_told results g few s e = record { is = e; small = rw e (small_gene results g few s) }
 
 -- a line for each gene: as many as there are genes
 pub room_always : (start m l : ℕ) → start + line_length * m ≤ l → start + line_length * count m always ≤ l

@@ -1,18 +1,19 @@
 // The report: its lines, each written into what is left of the result.
 #![tactic(auto)]
 
-ghost use Rattle.std.specs.Prelude.{◌≡◌, true, ◌+◌, ◌*◌, ◌≤◌, ◌<◌, length};
-ghost use Rattle.finite.specs.Tests.{tally};
+ghost use Rattle.std.specs.Prelude.{◌≡◌, ℕ, ◌+◌, ◌*◌, ◌≤◌, List, length, Option, IfSome};
 ghost use Rattle.finite.specs.Range.{count};
-ghost use Rattle.columns.specs.Writing.{written};
-ghost use Rattle.text_lines.specs.Lines.{line_length};
-ghost use Rattle.report.specs.Reports.{SmallTotals, totals_lines, always, five_of, report_length, SmallFive, Appended, Extended};
-ghost use Rattle.report.specs.inner.Tables.{has_secondary, reticulation_in, reticulation_numbers, gene_numbers, tabled_report, SmallNode, SmallNodes, SmallGene, SmallGenes};
+ghost use Rattle.columns.specs.Writing.{written, put};
+ghost use Rattle.text_lines.specs.Lines.{line_length, Small};
+ghost use Rattle.report.specs.Reports.{SmallTotals, totals_lines, report_length, always, Extended};
+ghost use Rattle.report.specs.inner.Tables.{reticulation_in, reticulation_numbers, node_line, gene_numbers, tabled_report, SmallNode, SmallNodes, SmallGenes};
+ghost use Rattle.report.specs.inner.Written.{line_bytes, Telling, Tells};
 
 use layout::lines::{Lines, secondary};
 use layout::parts::{Parts, reticulation_count, top};
-use layout::results::{Results, event, losses, place, transfers};
+use layout::results::Results;
 use layout::tree::{Tree, lateral, up};
+use text_lines::FIELDS;
 
 // The numbers of the first two lines.
 #[derive(Clone, Copy)]
@@ -29,81 +30,87 @@ pub struct Totals {
     pub components: u32,
 }
 
-// The numbers of a line.
-fn line(a: u32, b: u32, c: u32, d: u32, e: u32) -> [u32; text_lines::FIELDS]
-    ensures { result ≡ five_of a b c d e }
-{
-    [a, b, c, d, e]
-}
-
-// Writes a line of five numbers into what is left of the result from a place on.
-fn write_five(res: &mut [u8], start: usize, a: u32, b: u32, c: u32, d: u32, e: u32) -> usize
-    requires { (start + line_length ≤ length res.old) × SmallFive a b c d e }
-    ensures { Appended res.old res.new start result true (five_of a b c d e) }
-{
-    let fields = line(a, b, c, d, e);
-    text_lines::append_line(res, start, &fields)
-}
-
 // The first two lines.
 fn write_totals(res: &mut [u8], t: Totals) -> usize
     requires { (2 * line_length ≤ length res.old) × SmallTotals t }
     ensures { (res.new ≡ written res.old (totals_lines t)) × (result ≡ 2 * line_length) }
 {
-    let next = write_five(
-        res,
-        0,
-        t.cost,
-        t.duplications,
-        t.transfers,
-        t.losses,
-        t.trials,
-    );
-    write_five(
-        res,
-        next,
-        t.whole,
-        t.nodes,
-        t.genes,
-        t.reticulations,
-        t.components,
-    )
+    let first = [t.cost, t.duplications, t.transfers, t.losses, t.trials];
+    let second = [t.whole, t.nodes, t.genes, t.reticulations, t.components];
+    let next = text_lines::append_line(res, 0, &first);
+    text_lines::append_line(res, next, &second)
 }
 
-// The line of reticulation v.
-fn write_reticulation(res: &mut [u8], start: usize, v: usize, tree: &Tree, parts: &Parts) -> usize
-    requires { (start + line_length ≤ length res.old) × (v ≤ 127) × SmallNode tree.now parts.now v }
-    ensures { Appended res.old res.new start result true (reticulation_numbers tree.now parts.now v) }
+// The numbers of the line of reticulation v.
+fn reticulation_line(v: usize, tree: &Tree, parts: &Parts) -> [u32; FIELDS]
+    requires { (v ≤ 127) × SmallNode tree.now parts.now v }
+    ensures { result ≡ reticulation_numbers tree.now parts.now v }
 {
-    let c = top(parts, v);
-    let taken = up(tree, v) as u32;
-    write_five(
-        res,
-        start,
+    let top = top(parts, v);
+    [
         v as u32,
-        taken,
+        up(tree, v) as u32,
         lateral(tree, v),
-        c as u32,
-        reticulation_count(parts, c),
-    )
+        top as u32,
+        reticulation_count(parts, top),
+    ]
 }
 
-// The line of node v, if it is a reticulation.
-fn write_if_reticulation(
-    res: &mut [u8],
-    start: usize,
-    v: usize,
-    lines: &Lines,
-    tree: &Tree,
-    parts: &Parts,
-) -> usize
-    requires { (v ≤ 127) × SmallNode tree.now parts.now v × (start + line_length * tally (has_secondary lines.now v) ≤ length res.old) }
-    ensures { Appended res.old res.new start result (has_secondary lines.now v) (reticulation_numbers tree.now parts.now v) }
+// Those of the line of node v, if it is a reticulation.
+#[tactic(auto, using(finite::proofs::Tests::test_laws), unfolding(crate::specs::inner::Tables::node_line, crate::specs::inner::Tables::has_secondary))]
+fn line_of_node(v: usize, lines: &Lines, tree: &Tree, parts: &Parts) -> Option<[u32; FIELDS]>
+    requires { (v ≤ 127) × SmallNode tree.now parts.now v }
+    ensures { result ≡ node_line lines.now tree.now parts.now v }
 {
     if secondary(lines, v) == 0 {
-        return start;
+        return None;
     }
-    write_reticulation(res, start, v, tree, parts)
+    Some(reticulation_line(v, tree, parts))
+}
+
+// Those of the line of gene g.
+fn gene_line(g: usize, results: &Results) -> [u32; FIELDS]
+    requires { g ≤ 127 }
+    ensures { result ≡ gene_numbers results.now g }
+{
+    let gene = results[g];
+    [
+        g as u32,
+        gene.place,
+        gene.event.number(),
+        gene.transfers,
+        gene.losses,
+    ]
+}
+
+// Writes a line, where there is one, and returns the place after it.
+#[tactic(auto, using(columns::proofs::Writing::put_nil, text_lines::proofs::Lines::length_line))]
+fn append(res: &mut [u8], at: usize, line: Option<[u32; FIELDS]>) -> usize
+    requires { (at + length (line_bytes line) ≤ length res.old) × IfSome line Small }
+    ensures { (res.new ≡ put res.old at (line_bytes line)) × (result ≡ at + length (line_bytes line)) }
+{
+    let Some(fields) = line else {
+        return at;
+    };
+    text_lines::append_line(res, at, &fields)
+}
+
+// The lines of 1 to n, each written into what is left of the result; a number without a line has none.
+fn write_lines<F: Fn(usize) -> Option<[u32; FIELDS]>>(
+    res: &mut [u8],
+    start: usize,
+    n: usize,
+    line: F,
+) -> usize
+    requires callable { (v : ℕ) → 1 ≤ v → v ≤ n → F.pre line v }
+    requires told { (t : Telling) × Tells (F.post line) n t × (start + line_length * count n t.test ≤ length res.old) }
+    ensures { (t : Telling) → Tells (F.post line) n t → Extended res.old res.new start result t.test t.fields n }
+{
+    let mut next = start;
+    for v in 1..=n {
+        next = append(res, next, line(v));
+    }
+    next
 }
 
 // A line for each reticulation of 1 to n.
@@ -118,30 +125,7 @@ fn write_reticulations(
     requires { (n ≤ 127) × SmallNodes n tree.now parts.now × (start + line_length * count n (reticulation_in n lines.now) ≤ length res.old) }
     ensures { Extended res.old res.new start result (reticulation_in n lines.now) (reticulation_numbers tree.now parts.now) n }
 {
-    let mut next = start;
-    let mut v = 0;
-    while v < n {
-        let w = v + 1;
-        next = write_if_reticulation(res, next, w, lines, tree, parts);
-        v = w;
-    }
-    next
-}
-
-// The line of gene g.
-fn write_gene(res: &mut [u8], start: usize, g: usize, results: &Results) -> usize
-    requires { (start + line_length ≤ length res.old) × (g ≤ 127) × SmallGene results.now g }
-    ensures { Appended res.old res.new start result true (gene_numbers results.now g) }
-{
-    write_five(
-        res,
-        start,
-        g as u32,
-        place(results, g) as u32,
-        event(results, g),
-        transfers(results, g),
-        losses(results, g),
-    )
+    write_lines(res, start, n, |v| line_of_node(v, lines, tree, parts))
 }
 
 // A line for each gene of 1 to m.
@@ -149,14 +133,7 @@ fn write_genes(res: &mut [u8], start: usize, m: usize, results: &Results) -> usi
     requires { (m ≤ 127) × SmallGenes m results.now × (start + line_length * m ≤ length res.old) }
     ensures { Extended res.old res.new start result always (gene_numbers results.now) m }
 {
-    let mut next = start;
-    let mut g = 0;
-    while g < m {
-        let h = g + 1;
-        next = write_gene(res, next, h, results);
-        g = h;
-    }
-    next
+    write_lines(res, start, m, |g| Some(gene_line(g, results)))
 }
 
 // Writes the report over the front of the result, and returns how many bytes it has.

@@ -14,16 +14,17 @@ use Rattle.topology.specs.Switchings.{Switching, on_secondary, on_arcs}
 use Rattle.topology.specs.Lines.{network}
 use Rattle.topology.proofs.Above.{parent_cases, by_node}
 use Rattle.layout.specs.Lines.{nodes_in}
-use Rattle.layout.specs.inner.Tree.{up, lateral, rank, arcs, Held}
+use Rattle.layout.specs.inner.Tree.{up, lateral, rank, Held}
 use Rattle.layout.specs.Headers.{costs}
 use Rattle.layout.specs.declared.Header.{Header}
+use Rattle.layout.specs.declared.results.Placed.{Placed}
 use Rattle.reconciliation.specs.GeneTrees.{GeneTree}
 use Rattle.displayed.specs.Displayed.{Displayed, NodeOf}
 use Rattle.displayed.specs.Displays.{switched, display, base, two_arcs}
 use Rattle.displayed.specs.inner.Tabled.{tree_in, Holds}
 use Rattle.displayed.specs.Model as D
 use Rattle.displayed.proofs.Model.{table_tree, table_seated, table_place, table_event, table_transfers, table_losses, table_duplication_count, table_transfer_count, table_loss_count, table_cost}
-use Rattle.displayed.proofs.Displays.{on_arcs_lem, no_third}
+use Rattle.displayed.proofs.Displays.{no_third}
 use Rattle.mapping.specs.inner.Climbs.{fork_in, tree_of, Climbable}
 use Rattle.mapping.specs.inner.Evaluation.{Family, score_of, Evaluated}
 use Rattle.mapping.specs.declared.Score.{Score}
@@ -64,10 +65,6 @@ module _ (h : Header) (lines parts genes : List ℕ) (P : Prepared h lines parts
   rank_some : (v : ℕ) → 1 ≤ v → v ≤ n → 1 ≤ rank t v
   rank_some v l u = rw (H.ranks v (omega (arith, size_is))) (P.sound.rank_some v (λ e. omega arith))
 
-  arcs_few : (v : ℕ) → NodeOf (tree_of n t) v → arcs t v ≤ 2
-  unfolding tree_of tree_in on_arcs
-  arcs_few v k = let d : Node N v = record { low = k.low; high = omega (arith, k.high, size_is) } in omega (arith, H.counts v d, on_arcs_lem N P.sound σ G P.seated v, P.seated.few v d)
-
   -- three on arcs do not leave one node
   narrow : (c d e : ℕ) → NodeOf (tree_of n t) c → NodeOf (tree_of n t) d → NodeOf (tree_of n t) e → c ≢ d → up t c ≡ up t d → up t e ≡ up t c → (e ≡ c) ⊎ (e ≡ d)
   unfolding tree_of tree_in
@@ -86,7 +83,6 @@ module _ (h : Header) (lines parts genes : List ℕ) (P : Prepared h lines parts
     ranks = rank_some;
     laterals = lateral_few;
     ups = up_few;
-    few_arcs = arcs_few;
     narrow = narrow;
   }
 
@@ -111,7 +107,7 @@ module _ (h : Header) (lines parts genes : List ℕ) (P : Prepared h lines parts
     table_cost N P.sound σ G P.rooted P.seated n (up t) (rank t) (lateral t) (fork_in t) holds (costs h),
   )
 
-  pub genes_are : (r : List ℕ) → Evaluated X G r → Reconciled N G σ r
+  pub genes_are : (r : List Placed) → Evaluated X G r → Reconciled N G σ r
   unfolding tree_of
   genes_are r e = record {
     places = λ g l u. e.places g l u ∙ table_place N P.sound σ G P.rooted P.seated n (up t) (rank t) (lateral t) (fork_in t) holds g;

@@ -54,11 +54,11 @@ module _ (N : Network) (ok : Sound N) (G : GeneTree) (C : Costs) (low : N.size �
   unfolding reticulations
   all_trials = omega (arith, trials_le N (λ c _ _. few c), count_le N.size (is_reticulation N))
 
-  pub reached_start : (ch : List ℕ) → ch ≡ blank → Reached N G C ch (record { done = 0; setting = 0; least = 0; count = 0 })
-  reached_start ch e = rw e (record {
+  pub reached_start : (ch : List ℕ) (s : Stage) → ch ≡ blank → s.done ≡ 0 → s.setting ≡ 0 → s.count ≡ 0 → Reached N G C ch s
+  reached_start ch s e none first unscored = rw e (record {
     long = (blank_clear 0 (omega arith)).long;
-    state = search_start N.size (settings N) (trial_cost N G C) (best blank) (blank_clear 1 (omega arith)).none;
-    cached = λ d. absurd (d refl);
+    state = rw (none, first, unscored) (search_start N.size (settings N) (trial_cost N G C) (best blank) (blank_clear 1 (omega arith)).none);
+    cached = λ d. absurd (d first);
     clear = λ c _. (blank_clear 0 (omega arith)).none c;
   })
 

@@ -12,6 +12,7 @@ use Rattle.layout.specs.inner.Choices.{best}
 use Rattle.layout.specs.inner.Genes.{left, leaf, gene_tree}
 use Rattle.layout.specs.Headers.{costs}
 use Rattle.layout.specs.declared.Header.{Header}
+use Rattle.layout.specs.declared.results.Placed.{Placed}
 use Rattle.topology.specs.Networks.{Network}
 use Rattle.topology.specs.Switchings.{Switching}
 use Rattle.topology.specs.Components.{reticulation_count}
@@ -54,7 +55,7 @@ module _ {h : Header} {lines parts genes : List ℕ} (P : Prepared h lines parts
     pub family_held : Family h t genes
     family_held = family h lines parts genes P (assembled N f) t H
 
-    pub assembly : {r : List ℕ} {s : Score} → s ≡ score_of (tree_of h.nodes t) G C → Evaluated (tree_of h.nodes t) G r → Assembled h lines genes f t r s
+    pub assembly : {r : List Placed} {s : Score} → s ≡ score_of (tree_of h.nodes t) G C → Evaluated (tree_of h.nodes t) G r → Assembled h lines genes f t r s
     assembly {r} {s} e v = record {
       held = H;
       lent = v.lent;
@@ -62,10 +63,10 @@ module _ {h : Header} {lines parts genes : List ℕ} (P : Prepared h lines parts
       score = score_is h lines parts genes P (assembled N f) t H s e;
     }
 
-  pub works : {f : ℕ → ℕ} {t r : List ℕ} {s : Score} → Assembled h lines genes f t r s → Working h lines genes t r
+  pub works : {f : ℕ → ℕ} {t : List ℕ} {r : List Placed} {s : Score} → Assembled h lines genes f t r s → Working h lines genes t r
   works A = record { held = some_held A.held; lent = A.lent }
 
-  pub works_first : {σ : Switching} {t r : List ℕ} → Held N σ t → Lent G r → Working h lines genes t r
+  pub works_first : {σ : Switching} {t : List ℕ} {r : List Placed} → Held N σ t → Lent G r → Working h lines genes t r
   works_first H L = record { held = some_held H; lent = L }
 
   -- leaf genes sit at nodes
@@ -84,7 +85,7 @@ module _ {h : Header} {lines parts genes : List ℕ} (P : Prepared h lines parts
     pub step_settles : Settling s
     step_settles = S.settling N P.sound G C low P.few ch s A.reached A.inside at_most
 
-    module _ {ch₁ t r : List ℕ} {score : Score} (e : ch₁ ≡ written ch 0 (s.done + 1) s.setting) (B : Assembled h lines genes (entry ch₁ 0) t r score) {ch₂ : List ℕ} {z : Stage}
+    module _ {ch₁ t : List ℕ} {r : List Placed} {score : Score} (e : ch₁ ≡ written ch 0 (s.done + 1) s.setting) (B : Assembled h lines genes (entry ch₁ 0) t r score) {ch₂ : List ℕ} {z : Stage}
         (D : SettledBy s score.cost ch₁ ch₂ z) where
       cost_is : score.cost ≡ lca_cost N G C (assembled N (entry ch₁ 0))
       unfolding score_under
@@ -125,13 +126,13 @@ module _ {h : Header} {lines parts genes : List ℕ} (P : Prepared h lines parts
       ap (λ (x : Stage). x.setting) F.stage,
     )
 
-  pub begins : {ch : List ℕ} → ch ≡ blank → Reached N G C ch (record { done = 0; setting = 0; least = 0; count = 0 })
-  begins {ch} = S.reached_start N P.sound G C low P.few ch
+  pub begins : {ch : List ℕ} {s : Stage} → ch ≡ blank → (s.done ≡ 0) × ((s.setting ≡ 0) × ((s.least ≡ 0) × (s.count ≡ 0))) → Reached N G C ch s
+  begins {ch} {s} e z = S.reached_start N P.sound G C low P.few ch s e z.0 z.1.0 z.1.1.1
 
   pub ends : {ch : List ℕ} {s : Stage} → Reached N G C ch s → s.setting ≡ 0 → s.done ≤ h.nodes → h.nodes ≤ s.done → Last N G C ch s.count
   ends {ch} {s} R z a b = S.reached_end N P.sound G C low P.few ch s R z (omega (arith, size_is)) (omega (arith, size_is))
 
-  pub searched : {ch t r : List ℕ} {n : ℕ} {score : Score} → Last N G C ch n → Assembled h lines genes (best ch) t r score → Searched h lines genes ch t r (record { trials = n; score = score })
+  pub searched : {ch t : List ℕ} {r : List Placed} {n : ℕ} {score : Score} → Last N G C ch n → Assembled h lines genes (best ch) t r score → Searched h lines genes ch t r (record { trials = n; score = score })
   searched {ch} {t} {r} {n} {score} L A = record {
     steps = search_state N G C;
     last = L;

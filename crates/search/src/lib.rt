@@ -6,6 +6,7 @@
 ghost use Rattle.std.specs.Prelude.{◌≡◌, ◌+◌, ◌≤◌, ◌<◌};
 ghost use Rattle.tables.specs.Columns.{entry, blank};
 ghost use Rattle.layout.specs.Headers.{costs};
+ghost use Rattle.layout.specs.inner.Results.{blank as blank_results};
 ghost use Rattle.optimum.specs.Optimum.{trials_of};
 ghost use Rattle.search.specs.inner.Prepared.{network_of, genes_of, Prepared, Working, Assembled};
 ghost use Rattle.search.specs.inner.Steps.{takes, Settling, SettledBy, Awaiting, Finished, Reached, Last};
@@ -22,7 +23,7 @@ use mapping::Score;
 
 // Where the search stands: all settings of the components up to one are scored, and of the next component those below a setting, the best of which costs
 // the least; and so many settings are scored in all.
-#[derive(Clone, Copy)]
+#[derive(Clone, Copy, Default)]
 pub struct Stage {
     pub done: usize,
     pub setting: u32,
@@ -42,10 +43,7 @@ fn settings_of(k: u32) -> u32
     requires { k ≤ 8 }
     ensures { result ≡ trials_of k }
 {
-    if k == 0 {
-        return 0;
-    }
-    1 << k
+    if k == 0 { 0 } else { 1 << k }
 }
 
 // The score of the switching that has the settings of column k.
@@ -67,13 +65,11 @@ fn evaluated(
 }
 
 // Whether setting x becomes the best of its component: it is the first, number 0, or costs less than the least so far.
+#[tactic(auto, unfolding(crate::specs::inner::Steps::takes, finite::specs::Tests::same, finite::specs::Tests::under))]
 fn takes(x: u32, cost: u32, least: u32) -> bool
     ensures { result ≡ takes x cost least }
 {
-    if x == 0 {
-        return true;
-    }
-    cost < least
+    x == 0 || cost < least
 }
 
 // The next setting was found to cost this.
@@ -144,7 +140,7 @@ fn component(
 {
     let tried = settings_of(parts::reticulation_count(parts, s.done + 1));
     let mut stage = s;
-    while stage.setting < tried {
+    for _ in 0..tried {
         stage = step(h, lines, parts, genes, choices, t, r, stage);
     }
     finish(choices, stage)
@@ -164,14 +160,8 @@ fn components(
     ensures last { Last (network_of h lines.now) (genes_of h genes.now) (costs h) choices.new result }
     ensures working { Working h lines.now genes.now t.new r.new }
 {
-    let n = h.nodes;
-    let mut stage = Stage {
-        done: 0,
-        setting: 0,
-        least: 0,
-        count: 0,
-    };
-    while stage.done < n {
+    let mut stage = Stage::default();
+    for _ in 0..h.nodes {
         stage = component(h, lines, parts, genes, choices, t, r, stage);
     }
     stage.count
@@ -187,15 +177,12 @@ pub fn run(
     t: &mut Tree,
     r: &mut Results,
 ) -> Found
-    requires { Prepared h lines.now parts.now genes.now × (choices.old ≡ blank) × (t.old ≡ blank) × (r.old ≡ blank) }
+    requires { Prepared h lines.now parts.now genes.now × (choices.old ≡ blank) × (t.old ≡ blank) × (r.old ≡ blank_results) }
     ensures { Searched h lines.now genes.now choices.new t.new r.new result }
 {
     switching::start(h.nodes, lines, parts, t);
     mapping::seat_leaves(h.genes, genes, r);
     let trials = components(h, lines, parts, genes, choices, t, r);
     let score = evaluated(h, lines, parts, genes, choices, choices::BEST, t, r);
-    Found {
-        trials: trials,
-        score: score,
-    }
+    Found { trials, score }
 }

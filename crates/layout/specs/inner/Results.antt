@@ -1,28 +1,30 @@
 -- The table of what the report says of each gene (01, "The report"): "gene, place, event, transfers and losses on the way from its parent gene".
 -- Assumes nothing.
-use Rattle.std.specs.Prelude.{List, ℕ}
-use Rattle.tables.specs.Columns.{entry}
+use Rattle.std.specs.Prelude.{List, ℕ, slice_index_or, replicate}
+use Rattle.layout.specs.Events.{number}
+use Rattle.layout.specs.declared.events.Event.TheVariants.{LeafGene}
+use Rattle.layout.specs.declared.results.Placed.{Placed}
 
-abbrev pub place_column : ℕ
-place_column = 0
+-- a gene of which nothing is known
+abbrev pub unplaced : Placed
+unplaced = record { place = 0; event = LeafGene; transfers = 0; losses = 0 }
 
-abbrev pub place : List ℕ → ℕ → ℕ
-place t = entry t place_column
+-- a table without entries
+unfoldable pub blank : List Placed
+blank = replicate 128 unplaced
 
-abbrev pub event_column : ℕ
-event_column = 1
+-- what a table holds for a gene: nothing past its end
+abbrev pub placed : List Placed → ℕ → Placed
+placed t g = slice_index_or t g unplaced
 
-abbrev pub event : List ℕ → ℕ → ℕ
-event t = entry t event_column
+abbrev pub place : List Placed → ℕ → ℕ
+place t g = (placed t g).place
 
-abbrev pub transfers_column : ℕ
-transfers_column = 2
+abbrev pub event : List Placed → ℕ → ℕ
+event t g = number (placed t g).event
 
-abbrev pub transfers : List ℕ → ℕ → ℕ
-transfers t = entry t transfers_column
+abbrev pub transfers : List Placed → ℕ → ℕ
+transfers t g = (placed t g).transfers
 
-abbrev pub losses_column : ℕ
-losses_column = 3
-
-abbrev pub losses : List ℕ → ℕ → ℕ
-losses t = entry t losses_column
+abbrev pub losses : List Placed → ℕ → ℕ
+losses t g = (placed t g).losses

@@ -5,11 +5,7 @@ use Rattle.mapping.specs.inner.Evaluation.{Upto}
 use Rattle.mapping.specs.inner.Climbs.{tree_of}
 use Rattle.layout.specs.Headers.{costs}
 use Rattle.layout.specs.inner.Genes.{gene_tree}
-use Prim.Native.Nat.{◌≤◌}
 use Rattle.mapping.proofs.evaluate.Given as goal
 
 abbrev pub invariant-loop-k : goal.invariant-loop-k
-invariant-loop-k l = (l.k ≤ l.h.genes) × Upto (tree_of l.h.nodes l.t) (gene_tree l.h.genes l.g) (costs l.h) l.k l.r l.s
-
-abbrev pub decreases-loop-k : goal.decreases-loop-k
-decreases-loop-k l = l.k
+invariant-loop-k l = Upto (tree_of l.h.nodes l.t) (gene_tree l.h.genes l.g) (costs l.h) l.k l.r l.s

@@ -6,8 +6,8 @@ use Rattle.mapping.proofs.inner.Goals as goal
 
 pub seat-requires : goal.seat-requires
 seat-requires c = let s = c.requires in
-    (s.2, paired_few s.0 s.1.left s.1.right (rw (c.place.ensures, c.place-2.ensures) at c.pair_of-p.ensures))
+    (s.2, paired_few s.0 s.1.left s.1.right c.pair_of-p.ensures)
 
 pub returns : goal.returns
 unfolding noted_by
-returns c = record { paired = rw (c.place.ensures, c.place-2.ensures) at c.pair_of-p.ensures; results = rw (c.send-2.ensures, c.send.ensures, c.seat.ensures) }
+returns c = record { paired = c.pair_of-p.ensures; results = rw (c.send-2.ensures, c.send.ensures, c.seat.ensures) }

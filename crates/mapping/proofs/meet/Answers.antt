@@ -9,7 +9,7 @@ pub rank-q-requires : goal.rank-q-requires
 rank-q-requires c = let s = c.requires in (node_few _ _ s.0 _ s.2).0
 
 pub loop-a-init : goal.loop-a-init
-loop-a-init c = let s = c.requires in climbing_start s.0 s.1 s.2 c.rank-p.ensures c.rank-q.ensures
+loop-a-init c = let s = c.requires in climbing_start s.0 s.1 s.2 c.default-left.ensures c.default-right.ensures c.rank-p.ensures c.rank-q.ensures
 
 pub climb-left-requires : goal.climb-left-requires
 climb-left-requires c = let s = c.requires in let i = c.loop-a.invariant in

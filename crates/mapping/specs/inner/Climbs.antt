@@ -24,7 +24,6 @@ pub record Climbable (n : ℕ) (t : List ℕ) : Type 0 where
   pub ranks : (v : ℕ) → 1 ≤ v → v ≤ n → 1 ≤ rank t v
   pub laterals : (v : ℕ) → lateral t v ≤ 1
   pub ups : (v : ℕ) → up t v ≤ n
-  pub few_arcs : (v : ℕ) → NodeOf (tree_of n t) v → arcs t v ≤ 2
   pub narrow : (c d e : ℕ) → NodeOf (tree_of n t) c → NodeOf (tree_of n t) d → NodeOf (tree_of n t) e → c ≢ d → up t c ≡ up t d → up t e ≡ up t c → (e ≡ c) ⊎ (e ≡ d)
 
 -- a way to which an arc can be added

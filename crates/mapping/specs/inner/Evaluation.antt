@@ -1,14 +1,16 @@
 -- All genes under a switching: what the table of results holds, and the counts of events with their cost (01, "Settings and placement").
 -- Assumes nothing.
-use Rattle.std.specs.Prelude.{◌≡◌, cond, List, ℕ, ◌+◌, ◌*◌, ◌≤◌, ◌<◌, length}
+use Rattle.std.specs.Prelude.{◌≡◌, cond, List, ℕ, ◌+◌, ◌*◌, ◌≤◌, ◌<◌, length, slice_set}
 use Rattle.finite.specs.Tests.{same, tally}
 use Rattle.finite.specs.Range.{sum}
-use Rattle.tables.specs.Columns.{written}
+use Rattle.layout.specs.Events.{number}
 use Rattle.layout.specs.inner.Results as R
 use Rattle.layout.specs.inner.Genes.{gene_tree}
 use Rattle.layout.specs.inner.Genes as L
 use Rattle.layout.specs.Headers.{WithinLimits}
 use Rattle.layout.specs.declared.Header.{Header}
+use Rattle.layout.specs.declared.events.Event.{Event}
+use Rattle.layout.specs.declared.results.Placed.{Placed}
 use Rattle.reconciliation.specs.GeneTrees.{GeneTree, Rooted}
 use Rattle.reconciliation.specs.Costs.{Costs}
 use Rattle.displayed.specs.Displayed.{Displayed, NodeOf}
@@ -26,43 +28,43 @@ pub record Family (h : Header) (t g : List ℕ) : Type 0 where
   pub seated : SeatedIn (tree_of h.nodes t) (gene_tree h.genes g)
 
 -- a table of results to write in: leaf genes have their place and event, which no switching changes, and a gene without parent has no way
-pub record Lent (G : GeneTree) (r : List ℕ) : Type 0 where
-  pub long : length r ≡ 512
+pub record Lent (G : GeneTree) (r : List Placed) : Type 0 where
+  pub long : length r ≡ 128
   pub leaf_places : (g : ℕ) → 1 ≤ g → g ≤ G.count → G.left g ≡ 0 → R.place r g ≡ G.leaf g
   pub leaf_events : (g : ℕ) → 1 ≤ g → g ≤ G.count → G.left g ≡ 0 → R.event r g ≡ 0
   pub no_transfers : (g : ℕ) → G.parent g ≡ 0 → R.transfers r g ≡ 0
   pub no_losses : (g : ℕ) → G.parent g ≡ 0 → R.losses r g ≡ 0
 
 -- no gene has a way yet, and of the leaf genes those up to k have their place and event
-pub record LeavesUpto (g : List ℕ) (k : ℕ) (r : List ℕ) : Type 0 where
-  pub long : length r ≡ 512
+pub record LeavesUpto (g : List ℕ) (k : ℕ) (r : List Placed) : Type 0 where
+  pub long : length r ≡ 128
   pub places : (j : ℕ) → 1 ≤ j → j ≤ k → L.left g j ≡ 0 → R.place r j ≡ L.leaf g j
   pub events : (j : ℕ) → 1 ≤ j → j ≤ k → L.left g j ≡ 0 → R.event r j ≡ 0
   pub no_transfers : (j : ℕ) → R.transfers r j ≡ 0
   pub no_losses : (j : ℕ) → R.losses r j ≡ 0
 
 -- the children of a gene have their places
-pub record Seats (n : ℕ) (t r : List ℕ) (a b : ℕ) : Type 0 where
+pub record Seats (n : ℕ) (t : List ℕ) (r : List Placed) (a b : ℕ) : Type 0 where
   pub left : NodeOf (tree_of n t) (R.place r a)
   pub right : NodeOf (tree_of n t) (R.place r b)
 
 -- what is written of a gene, of a way, and of an inner gene with its children's ways
-unfoldable pub seated_by : List ℕ → (k node event : ℕ) → List ℕ
-seated_by r k node event = written (written r R.place_column k node) R.event_column k event
+unfoldable pub seated_by : List Placed → (k node : ℕ) → Event → List Placed
+seated_by r k node event = slice_set r k (record (R.placed r k) { place = node; event = event })
 
-unfoldable pub sent_to : List ℕ → ℕ → Steps → List ℕ
-sent_to r k w = written (written r R.transfers_column k w.transfers) R.losses_column k w.losses
+unfoldable pub sent_to : List Placed → ℕ → Steps → List Placed
+sent_to r k w = slice_set r k (record (R.placed r k) { transfers = w.transfers; losses = w.losses })
 
-unfoldable pub noted_by : List ℕ → (k a b : ℕ) → Pair → List ℕ
+unfoldable pub noted_by : List Placed → (k a b : ℕ) → Pair → List Placed
 noted_by r k a b p = sent_to (sent_to (seated_by r k p.node p.event) a p.left) b p.right
 
 -- the counts of a pair: "Its event is 0, 1, 2 or 3" chooses the count that is raised and what is charged at the gene
 unfoldable pub raised_by : Header → Score → Pair → Score
 raised_by h s p = record {
-  duplications = s.duplications + tally (same p.event 2);
+  duplications = s.duplications + tally (same (number p.event) 2);
   transfers = s.transfers + (p.left.transfers + p.right.transfers);
   losses = s.losses + (p.left.losses + p.right.losses);
-  cost = s.cost + h.duplication * tally (same p.event 2);
+  cost = s.cost + h.duplication * tally (same (number p.event) 2);
 }
 
 -- counts that a pair can be added to
@@ -98,7 +100,7 @@ of_children G f p = cond (same (G.left p) 0) 0 (f (G.left p) + f (G.right p))
 
 module _ (T : Displayed) (G : GeneTree) where
   -- the genes above k are done: their places and events stand, and their children's ways; s has their counts
-  pub record Upto (C : Costs) (k : ℕ) (r : List ℕ) (s : Score) : Type 0 where
+  pub record Upto (C : Costs) (k : ℕ) (r : List Placed) (s : Score) : Type 0 where
     pub lent : Lent G r
     pub places : (j : ℕ) → k < j → j ≤ G.count → R.place r j ≡ place T G j
     pub events : (j : ℕ) → k < j → j ≤ G.count → R.event r j ≡ event T G j
@@ -110,7 +112,7 @@ module _ (T : Displayed) (G : GeneTree) where
     pub cost : s.cost ≡ C.duplication * s.duplications
 
   -- "for each gene: gene, place, event, transfers and losses on the way from its parent gene (0 for gene 1)" (01, "The report")
-  pub record Evaluated (r : List ℕ) : Type 0 where
+  pub record Evaluated (r : List Placed) : Type 0 where
     pub lent : Lent G r
     pub places : (g : ℕ) → 1 ≤ g → g ≤ G.count → R.place r g ≡ place T G g
     pub events : (g : ℕ) → 1 ≤ g → g ≤ G.count → R.event r g ≡ event T G g

@@ -1,6 +1,6 @@
 -- The report's lines as the tables of a scored family have their numbers (01, "The report").
 -- Assumes nothing.
-use Rattle.std.specs.Prelude.{ℕ, ◌≤◌, ◌<◌, Bool, not, List}
+use Rattle.std.specs.Prelude.{ℕ, ◌≤◌, ◌<◌, Bool, not, cond, List, Option, Some, None}
 use Rattle.finite.specs.Tests.{same}
 use Rattle.topology.specs.Networks.{is_reticulation}
 use Rattle.topology.specs.Lines.{network}
@@ -8,6 +8,7 @@ use Rattle.layout.specs.Lines.{secondary, nodes_in}
 use Rattle.layout.specs.inner.Tree.{up, lateral}
 use Rattle.layout.specs.inner.Parts.{top, reticulation_count}
 use Rattle.layout.specs.inner.Results.{place, event, transfers, losses}
+use Rattle.layout.specs.declared.results.Placed.{Placed}
 use Rattle.report.specs.declared.Totals.{Totals}
 use Rattle.report.specs.Reports.{reticulation_fields, gene_fields, report_of}
 
@@ -22,11 +23,15 @@ reticulation_in n lines = is_reticulation (network (nodes_in n lines))
 abbrev pub reticulation_numbers : (tree parts : List ℕ) → ℕ → List ℕ
 reticulation_numbers tree parts = reticulation_fields (up tree) (lateral tree) (top parts) (reticulation_count parts)
 
-abbrev pub gene_numbers : (results : List ℕ) → ℕ → List ℕ
+-- of a node that is none there is no line
+unfoldable pub node_line : (lines tree parts : List ℕ) → ℕ → Option (List ℕ)
+node_line lines tree parts v = cond (has_secondary lines v) (Some (reticulation_numbers tree parts v)) None
+
+abbrev pub gene_numbers : (results : List Placed) → ℕ → List ℕ
 gene_numbers results = gene_fields (place results) (event results) (transfers results) (losses results)
 
 -- the whole report
-abbrev pub tabled_report : Totals → (n m : ℕ) → (lines tree parts results : List ℕ) → List ℕ
+abbrev pub tabled_report : Totals → (n m : ℕ) → (lines tree parts : List ℕ) (results : List Placed) → List ℕ
 tabled_report totals n m lines tree parts results = report_of totals n m (reticulation_in n lines) (up tree) (lateral tree) (top parts) (reticulation_count parts)
     (place results) (event results) (transfers results) (losses results)
 
@@ -37,7 +42,7 @@ pub record SmallNode (tree parts : List ℕ) (v : ℕ) : Type 0 where
   pub top_row : top parts v ≤ 127
   pub count : reticulation_count parts (top parts v) < 1000000
 
-pub record SmallGene (results : List ℕ) (g : ℕ) : Type 0 where
+pub record SmallGene (results : List Placed) (g : ℕ) : Type 0 where
   pub place : place results g < 1000000
   pub event : event results g < 1000000
   pub transfers : transfers results g < 1000000
@@ -47,5 +52,5 @@ pub record SmallGene (results : List ℕ) (g : ℕ) : Type 0 where
 pub record SmallNodes (n : ℕ) (tree parts : List ℕ) : Type 0 where
   pub each : (v : ℕ) → 1 ≤ v → v ≤ n → SmallNode tree parts v
 
-pub record SmallGenes (m : ℕ) (results : List ℕ) : Type 0 where
+pub record SmallGenes (m : ℕ) (results : List Placed) : Type 0 where
   pub each : (g : ℕ) → 1 ≤ g → g ≤ m → SmallGene results g

@@ -13,27 +13,24 @@ reticulation_count-requires c = let s = c.requires in omega (arith, s.reached.1,
 pub settings_of-tried-requires : goal.settings_of-tried-requires
 settings_of-tried-requires c = let s = c.requires in few_reticulations s.prepared.0 (omega arith) (omega (arith, s.reached.1)) c.reticulation_count.ensures
 
-pub loop-stage-init : goal.loop-stage-init
-loop-stage-init c = let s = c.requires in (refl, omega (arith, s.reached.2), s.reached.0, s.prepared.1)
+pub loop-init : goal.loop-init
+loop-init c = let s = c.requires in (refl, s.reached.2, s.reached.0, s.prepared.1)
 
 pub step-stage-requires : goal.step-stage-requires
-step-stage-requires c = let s = c.requires in let i = c.loop-stage.invariant in
+step-stage-requires c = let s = c.requires in let i = c.loop.invariant in
     let tried = tried_is s.prepared.0 (omega arith) (omega (arith, s.reached.1)) c.reticulation_count.ensures c.settings_of-tried.ensures in
-    record { prepared = (s.prepared.0, i.3); awaiting = awaits s.prepared.0 i.2 (omega (arith, i.0, s.reached.1)) (tried_still s.prepared.0 tried i.0) c.loop-stage-test.true }
+    record { prepared = (s.prepared.0, i.3); awaiting = awaits s.prepared.0 i.2 (omega (arith, i.0, s.reached.1)) (tried_still s.prepared.0 tried i.0) (omega (arith, i.1)) }
 
-pub loop-stage-smaller : goal.loop-stage-smaller
-loop-stage-smaller c = omega (arith, c.step-stage.ensures.reached.2, c.loop-stage-test.true)
-
-pub loop-stage-preserved : goal.loop-stage-preserved
-loop-stage-preserved c = let i = c.loop-stage.invariant in let e = c.step-stage.ensures in
-    (e.reached.1 ∙ i.0, omega (arith, e.reached.2, c.loop-stage-test.true), e.reached.0, e.working)
+pub loop-preserved : goal.loop-preserved
+loop-preserved c = let i = c.loop.invariant in let e = c.step-stage.ensures in
+    (e.reached.1 ∙ i.0, omega (arith, e.reached.2, i.1), e.reached.0, e.working)
 
 pub finish-requires : goal.finish-requires
-finish-requires c = let s = c.requires in let i = c.loop-stage.invariant in
+finish-requires c = let s = c.requires in let i = c.loop.invariant in
     omega (arith, i.0, s.reached.1, s.prepared.0.limits.few_nodes)
 
 pub returns : goal.returns
-returns c = let s = c.requires in let i = c.loop-stage.invariant in
+returns c = let s = c.requires in let i = c.loop.invariant in
     let tried = tried_is s.prepared.0 (omega arith) (omega (arith, s.reached.1)) c.reticulation_count.ensures c.settings_of-tried.ensures in
-    let f = finishes s.prepared.0 i.2 (omega (arith, i.0, s.reached.1)) (tried_still s.prepared.0 tried i.0) i.1 c.loop-stage-test.false c.finish.ensures in
+    let f = finishes s.prepared.0 i.2 (omega (arith, i.0, s.reached.1)) (tried_still s.prepared.0 tried i.0) (omega (arith, i.1)) (omega (arith, i.1)) c.finish.ensures in
     record { reached_after = (f.0, omega (arith, f.1, i.0), f.2); working = i.3 }

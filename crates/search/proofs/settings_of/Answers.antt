@@ -11,6 +11,6 @@ pub returns-then-k-eq0 : goal.returns-then-k-eq0
 unfolding trials_of
 returns-then-k-eq0 c = rw (is_same c.if-k-eq0.true)
 
-pub returns : goal.returns
+pub returns-else-k-eq0 : goal.returns-else-k-eq0
 unfolding trials_of
-returns c = let p : 2 ^ c.args.k ≤ 256 = pow-le-pow_right {n = 2} (omega arith) c.requires in rw (not_same c.if-k-eq0.false) (omega (arith, p))
+returns-else-k-eq0 c = let p : 2 ^ c.args.k ≤ 256 = pow-le-pow_right {n = 2} (omega arith) c.requires in rw (not_same c.if-k-eq0.false) (omega (arith, p))

@@ -9,6 +9,7 @@ use Rattle.layout.specs.inner.Genes.{gene_tree}
 use Rattle.layout.specs.inner.Results as R
 use Rattle.layout.specs.Headers.{costs, WithinLimits}
 use Rattle.layout.specs.declared.Header.{Header}
+use Rattle.layout.specs.declared.results.Placed.{Placed}
 use Rattle.topology.specs.Networks.{Network, Sound}
 use Rattle.topology.specs.Switchings.{Switching}
 use Rattle.topology.specs.Components.{reticulation_count}
@@ -36,7 +37,7 @@ pub record Prepared (h : Header) (lines parts genes : List ℕ) : Type 0 where
   pub seated : Seated (network_of h lines) (genes_of h genes)
 
 -- the tree of some switching, and a table of results to write in
-pub record Working (h : Header) (lines genes t r : List ℕ) : Type 0 where
+pub record Working (h : Header) (lines genes t : List ℕ) (r : List Placed) : Type 0 where
   pub held : SomeHeld (network_of h lines) t
   pub lent : Lent (genes_of h genes) r
 
@@ -50,14 +51,14 @@ score_under N G C σ = record {
 }
 
 -- the table of results holds every gene under switching σ
-pub record Reconciled (N : Network) (G : GeneTree) (σ : Switching) (r : List ℕ) : Type 0 where
+pub record Reconciled (N : Network) (G : GeneTree) (σ : Switching) (r : List Placed) : Type 0 where
   pub places : (g : ℕ) → 1 ≤ g → g ≤ G.count → R.place r g ≡ place N G σ g
   pub events : (g : ℕ) → 1 ≤ g → g ≤ G.count → R.event r g ≡ event N G σ g
   pub ways : (g : ℕ) → 1 ≤ g → g ≤ G.count → R.transfers r g ≡ transfers N G σ g
   pub lost : (g : ℕ) → 1 ≤ g → g ≤ G.count → R.losses r g ≡ losses N G σ g
 
 -- the tree and the genes of the switching that has the setting f c at each component c, and its score
-pub record Assembled (h : Header) (lines genes : List ℕ) (f : ℕ → ℕ) (t r : List ℕ) (s : Score) : Type 0 where
+pub record Assembled (h : Header) (lines genes : List ℕ) (f : ℕ → ℕ) (t : List ℕ) (r : List Placed) (s : Score) : Type 0 where
   pub held : Held (network_of h lines) (assembled (network_of h lines) f) t
   pub lent : Lent (genes_of h genes) r
   pub mapped : Reconciled (network_of h lines) (genes_of h genes) (assembled (network_of h lines) f) r

@@ -5,6 +5,7 @@ use Rattle.std.specs.Prelude.{◌≡◌, List, ℕ, ◌≤◌}
 use Rattle.layout.specs.inner.Choices.{best}
 use Rattle.layout.specs.Headers.{costs}
 use Rattle.layout.specs.declared.Header.{Header}
+use Rattle.layout.specs.declared.results.Placed.{Placed}
 use Rattle.topology.specs.Switchings.{Switching}
 use Rattle.optimum.specs.Optimum.{assembled, trials, Optimal}
 use Rattle.optimum.specs.Optimum as O
@@ -17,7 +18,7 @@ use Rattle.search.specs.declared.Found.{Found}
 abbrev pub reported : Header → (lines choices : List ℕ) → Switching
 reported h lines choices = assembled (network_of h lines) (best choices)
 
-pub record Searched (h : Header) (lines genes choices t r : List ℕ) (f : Found) : Type 0 where
+pub record Searched (h : Header) (lines genes choices t : List ℕ) (r : List Placed) (f : Found) : Type 0 where
   -- "After t steps the count is t, and a component's best is the first, among those of its settings that are among the t scored .."
   pub steps : (k : ℕ) → k ≤ trials (network_of h lines) → AsScored (network_of h lines) (genes_of h genes) (costs h) k (search_after (network_of h lines) (genes_of h genes) (costs h) k)
   -- "With no setting left the search stops"
