@@ -1,5 +1,5 @@
 // Components by the definition: an arc is cut if its ends are parted without it, and a component is topped by the root or by the end of a cut arc.
-use super::networks::{Node, principal};
+use super::networks::Network;
 use super::settings::settings;
 use std::alloc::{AllocError, Global};
 
@@ -31,8 +31,8 @@ impl Joined {
     }
 
     // All arcs but the principal one into `cut`.
-    fn join_all(&mut self, nodes: &[Node], cut: usize) {
-        for (w, node) in nodes.iter().enumerate() {
+    fn join_all(&mut self, network: &Network, cut: usize) {
+        for (w, node) in network.nodes.iter().enumerate() {
             self.join(node.principal.filter(|_| w != cut), w);
             self.join(node.secondary, w);
         }
@@ -40,23 +40,23 @@ impl Joined {
 }
 
 // Whether the principal arc into v from its parent is all that joins them.
-fn is_cut(alloc: Global, nodes: &[Node], parent: usize, v: usize) -> Result<bool, AllocError> {
+fn is_cut(alloc: Global, network: &Network, parent: usize, v: usize) -> Result<bool, AllocError> {
     let mut joined = Joined {
-        nodes: vec![in alloc; false; nodes.len()]?,
+        nodes: vec![in alloc; false; network.len()]?,
     };
     joined.insert(v);
-    for _ in 0..nodes.len() {
-        joined.join_all(nodes, v);
+    for _ in 0..network.len() {
+        joined.join_all(network, v);
     }
     Ok(!joined.contains(parent))
 }
 
 // The top of the component of v.
-fn top(alloc: Global, nodes: &[Node], v: usize) -> Result<usize, AllocError> {
+fn top(alloc: Global, network: &Network, v: usize) -> Result<usize, AllocError> {
     let mut a = v;
-    for _ in 0..nodes.len() {
-        match principal(nodes, a) {
-            Some(parent) if !is_cut(alloc, nodes, parent, a)? => a = parent,
+    for _ in 0..network.len() {
+        match network.principal(a) {
+            Some(parent) if !is_cut(alloc, network, parent, a)? => a = parent,
             _ => return Ok(a),
         }
     }
@@ -70,13 +70,12 @@ pub(crate) struct Components {
 }
 
 impl Components {
-    pub(crate) fn find(alloc: Global, nodes: &[Node]) -> Result<Components, AllocError> {
+    pub(crate) fn find(alloc: Global, network: &Network) -> Result<Components, AllocError> {
         let mut tops = Vec::new(alloc);
-        for (v, node) in nodes.iter().enumerate() {
-            tops.push(if node.is_reticulation() {
-                Some(top(alloc, nodes, v)?)
-            } else {
-                None
+        for (v, node) in network.nodes.iter().enumerate() {
+            tops.push(match node.secondary {
+                Some(_) => Some(top(alloc, network, v)?),
+                None => None,
             })?;
         }
         Ok(Components { tops })

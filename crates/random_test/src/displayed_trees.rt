@@ -1,7 +1,7 @@
 // The tree that a network displays under a setting, and what lies between two of its nodes.
 ghost use Rattle.std.specs.Iterator.{at_most};
 
-use super::networks::Node;
+use super::networks::{Network, Node};
 use std::alloc::{AllocError, Global};
 
 // The arc into a node that is on; the root has no parent.
@@ -30,12 +30,12 @@ impl DisplayedTree {
     // The tree under a setting: the highest-numbered reticulation has the lowest bit, so settings rise in the stated order.
     pub(crate) fn new(
         alloc: Global,
-        nodes: &[Node],
+        network: &Network,
         setting: usize,
     ) -> Result<DisplayedTree, AllocError> {
         let mut bits = setting;
         let mut arcs = Vec::new(alloc);
-        for node in nodes.iter().rev() {
+        for node in network.nodes.iter().rev() {
             arcs.push(Arc::into_node(node, bits % 2 == 1))?;
             if node.is_reticulation() {
                 bits /= 2;
@@ -116,7 +116,7 @@ struct Upward<'a> {
     left: usize,
 }
 
-impl<'a> Iterator for Upward<'a> {
+impl Iterator for Upward<'_> {
     type Item = usize;
 
     ghost remaining = { λ s. at_most s.left };

@@ -68,10 +68,10 @@ impl Draws {
     // The numbers 1 to n in a random order.
     pub(crate) fn shuffled(self, alloc: Global, n: usize) -> Result<Vec<usize>, AllocError> {
         let mut numbers = Vec::new(alloc);
-        for i in 0..n {
-            numbers.push(number(i))?;
+        for i in 1..=n {
+            numbers.push(i)?;
             let last = numbers.len() - 1;
-            let other = self.below(Purpose::Shuffle, number(i), numbers.len());
+            let other = self.below(Purpose::Shuffle, i, numbers.len());
             numbers.swap(other, last);
         }
         Ok(numbers)

@@ -43,7 +43,7 @@ impl Settled {
             settings: costs.len(),
             best,
             report: report(alloc, family, best.setting, whole)?,
-            words: family.nodes.len().saturating_mul(family.genes.len()),
+            words: family.network.len().saturating_mul(family.genes.len()),
         }))
     }
 }
@@ -55,12 +55,11 @@ fn report(
     setting: usize,
     whole: usize,
 ) -> Result<String, AllocError> {
-    let nodes = family.nodes.as_slice();
-    let tree = DisplayedTree::new(alloc, nodes, setting)?;
+    let tree = DisplayedTree::new(alloc, &family.network, setting)?;
     let report = Report {
         family,
         mapping: Mapping::new(alloc, &tree, family.genes.as_slice())?,
-        components: Components::find(alloc, nodes)?,
+        components: Components::find(alloc, &family.network)?,
         whole,
     };
     format!(in alloc; "{report}")

@@ -1,8 +1,8 @@
 // Random family sheets: a network, a gene tree and costs, spelled, and on some sheets damaged.
 use super::draws::{Draws, Purpose};
 use super::gene_trees::{Gene, descend};
+use super::growth::Growth;
 use super::lines::{LINE, Line, number, parent_number};
-use super::networks::Network;
 use std::alloc::{AllocError, Global};
 
 // The numbers of the nodes on the sheet.
@@ -42,14 +42,10 @@ fn header(draws: Draws, nodes: usize, genes: usize) -> Line {
 }
 
 // The lines of the nodes, in the order of their numbers.
-fn node_lines(
-    alloc: Global,
-    network: &Network,
-    numbers: &Numbers,
-) -> Result<Vec<Line>, AllocError> {
+fn node_lines(alloc: Global, growth: &Growth, numbers: &Numbers) -> Result<Vec<Line>, AllocError> {
     let mut lines = Vec::new(alloc);
-    for (v, node) in network.nodes.iter().enumerate() {
-        let leaf = network.live.contains(&v).then_some(v);
+    for (v, node) in growth.network.nodes.iter().enumerate() {
+        let leaf = growth.live.contains(&v).then_some(v);
         lines.push(Line([
             numbers.of(v),
             numbers.of_parent(node.principal),
@@ -58,7 +54,7 @@ fn node_lines(
             numbers.species_at(leaf),
         ]))?;
     }
-    lines.sort_unstable_by_key(|line| line.0[0]);
+    lines.sort_unstable_by_key(|Line([number, ..])| *number);
     Ok(lines)
 }
 
@@ -67,11 +63,8 @@ fn gene_line(g: usize, gene: &Gene, numbers: &Numbers) -> Line {
     Line([number(g), parent, numbers.species_at(gene.leaf), 0, 0])
 }
 
-// One sheet in ten gets another number in one field.
+// Another number in one field.
 fn damage_field(draws: Draws, lines: &mut [Line]) {
-    if draws.below(Purpose::Damage, 0, 20) >= 2 {
-        return;
-    }
     let damaged = draws.below(Purpose::Damage, 1, lines.len());
     let field = draws.below(Purpose::Damage, 2, 5);
     if let Some(line) = lines.get_mut(damaged) {
@@ -79,11 +72,8 @@ fn damage_field(draws: Draws, lines: &mut [Line]) {
     }
 }
 
-// One sheet in twenty gets another byte.
+// Another byte.
 fn damage_byte(draws: Draws, text: &mut [u8]) {
-    if draws.below(Purpose::Damage, 0, 20) != 2 {
-        return;
-    }
     let line = draws.below(Purpose::Damage, 1, text.len() / LINE);
     let other = draws.below(Purpose::Damage, 3, 32);
     let damaged = text.chunks_exact_mut(LINE).nth(line);
@@ -92,24 +82,30 @@ fn damage_byte(draws: Draws, text: &mut [u8]) {
     }
 }
 
-// A random sheet.
+// A random sheet: one in ten is damaged in a field, and one in twenty in a byte.
 pub(crate) fn sheet(alloc: Global, draws: Draws) -> Result<Vec<u8>, AllocError> {
-    let network = Network::grow(alloc, draws)?;
-    let genes = descend(alloc, draws, &network)?;
+    let growth = Growth::of(alloc, draws)?;
+    let genes = descend(alloc, draws, &growth)?;
+    let nodes = growth.network.len();
     let numbers = Numbers {
-        nodes: draws.shuffled(alloc, network.nodes.len())?,
+        nodes: draws.shuffled(alloc, nodes)?,
     };
-    let mut lines = vec![in alloc; header(draws, network.nodes.len(), genes.len())]?;
-    lines.extend(node_lines(alloc, &network, &numbers)?)?;
+    let mut lines = vec![in alloc; header(draws, nodes, genes.len())]?;
+    lines.extend(node_lines(alloc, &growth, &numbers)?)?;
     lines.extend(
         genes
             .iter()
             .enumerate()
             .map(|(g, gene)| gene_line(g, gene, &numbers)),
     )?;
-    damage_field(draws, lines.as_mut_slice());
+    let damage = draws.below(Purpose::Damage, 0, 20);
+    if damage < 2 {
+        damage_field(draws, lines.as_mut_slice());
+    }
     let mut text = spell(alloc, lines.as_slice())?.into_bytes();
-    damage_byte(draws, text.as_mut_slice());
+    if damage == 2 {
+        damage_byte(draws, text.as_mut_slice());
+    }
     Ok(text)
 }
 

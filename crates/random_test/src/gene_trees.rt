@@ -1,8 +1,8 @@
 // A random gene tree: genes go down the network under a random setting, with losses, duplications and leaves of other species, until there are enough.
 use super::displayed_trees::DisplayedTree;
 use super::draws::{Draws, Purpose};
+use super::growth::Growth;
 use super::lines::number;
-use super::networks::Network;
 use std::alloc::{AllocError, Global};
 
 // The most genes.
@@ -16,11 +16,11 @@ pub(crate) struct Gene {
     pub leaf: Option<usize>,
 }
 
-// The genes of a network, which grow from the first on.
+// The genes that go down a network, from the first on.
 #[derive(Drop)]
 struct Descent<'a> {
     draws: Draws,
-    network: &'a Network,
+    growth: &'a Growth,
     tree: DisplayedTree,
     genes: Vec<Gene>,
 }
@@ -29,13 +29,13 @@ struct Descent<'a> {
 pub(crate) fn descend(
     alloc: Global,
     draws: Draws,
-    network: &Network,
+    growth: &Growth,
 ) -> Result<Vec<Gene>, AllocError> {
     let setting = draws.below(Purpose::Shape, 2, 64);
     let mut descent = Descent {
         draws,
-        network,
-        tree: DisplayedTree::new(alloc, network.nodes.as_slice(), setting)?,
+        growth,
+        tree: DisplayedTree::new(alloc, &growth.network, setting)?,
         genes: Vec::new(alloc),
     };
     descent.start(None, 0)?;
@@ -77,7 +77,7 @@ impl Descent<'_> {
     // Where gene g stays.
     fn stay(&self, g: usize, start: usize) -> usize {
         let mut v = start;
-        for _ in 0..self.network.nodes.len() {
+        for _ in 0..self.growth.network.len() {
             match self.next(g, v) {
                 Some(w) => v = w,
                 None => return v,
@@ -92,7 +92,7 @@ impl Descent<'_> {
         if self.draws.below(Purpose::Stray, i, 2) != 0 {
             return v;
         }
-        let live = self.network.live.as_slice();
+        let live = self.growth.live.as_slice();
         self.draws.choose(live, Purpose::StrayLeaf, i).unwrap_or(v)
     }
 

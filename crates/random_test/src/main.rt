@@ -10,6 +10,7 @@ mod draws;
 mod enumeration;
 mod families;
 mod gene_trees;
+mod growth;
 mod lines;
 mod mappings;
 mod networks;
@@ -24,14 +25,14 @@ use draws::Draws;
 use enumeration::Settled;
 use std::alloc::{AllocError, Global};
 use std::io;
-use written::{BYTE, WORD, Written};
+use written::{BYTE, RESULT_BYTES, SCRATCH_WORDS, WORD, Written};
 
 const SHEETS: u32 = 10000;
 
 // Scores a sheet, and counts what comes of it.
 fn try_sheet(alloc: Global, counts: &mut Counts, sheet: &[u8]) -> Result<(), AllocError> {
-    let mut result = [BYTE; 5952];
-    let mut scratch = [WORD; 16129];
+    let mut result = [BYTE; RESULT_BYTES];
+    let mut scratch = [WORD; SCRATCH_WORDS];
     let answer = score::score(sheet, &mut result, &mut scratch);
     let written = Written {
         result: &result,

@@ -53,14 +53,16 @@ impl<'a> Mapping<'a> {
     }
 
     pub(crate) fn event(&self, g: usize) -> Event {
+        let Some(End::Children(a, b)) = self.genes.get(g).map(|gene| gene.end) else {
+            return Event::Leaf;
+        };
         let p = self.place(g);
-        match self.genes.get(g).map(|gene| gene.end) {
-            Some(End::Children(a, b)) if p == self.place(a) || p == self.place(b) => {
-                Event::Duplication
-            }
-            Some(End::Children(_, _)) if self.tree.sends(p) => Event::Transfer,
-            Some(End::Children(_, _)) => Event::Speciation,
-            _ => Event::Leaf,
+        if p == self.place(a) || p == self.place(b) {
+            Event::Duplication
+        } else if self.tree.sends(p) {
+            Event::Transfer
+        } else {
+            Event::Speciation
         }
     }
 

@@ -2,7 +2,6 @@
 use super::cuts::Components;
 use super::lines::{Line, number, parent_number};
 use super::mappings::Mapping;
-use super::networks;
 use super::sheets::Family;
 use std::fmt;
 
@@ -30,9 +29,9 @@ impl Report<'_> {
     fn sizes(&self) -> Line {
         Line([
             self.whole,
-            self.family.nodes.len(),
+            self.family.network.len(),
             self.family.genes.len(),
-            networks::reticulations(self.family.nodes.as_slice()),
+            self.family.network.reticulations(),
             self.components.count(),
         ])
     }
@@ -63,7 +62,7 @@ impl Report<'_> {
 impl fmt::Display for Report<'_> {
     fn fmt<W: fmt::Write>(&self, f: &mut fmt::Formatter<W>) -> fmt::Result {
         write!(f, "{}{}", self.totals(), self.sizes())?;
-        let reticulations = (0..self.family.nodes.len()).filter_map(|v| self.reticulation(v));
+        let reticulations = (0..self.family.network.len()).filter_map(|v| self.reticulation(v));
         let genes = (0..self.family.genes.len()).map(|g| self.gene(g));
         for line in reticulations.chain(genes) {
             write!(f, "{line}")?;

@@ -1,7 +1,6 @@
 // The enumeration: all settings of the whole network in the stated order.
 use super::displayed_trees::DisplayedTree;
 use super::mappings::Mapping;
-use super::networks;
 use super::sheets::Family;
 use std::alloc::{AllocError, Global};
 
@@ -37,10 +36,9 @@ pub(crate) fn settings(reticulations: usize) -> usize {
 
 // What each setting of a family costs.
 pub(crate) fn costs(alloc: Global, family: &Family) -> Result<Vec<usize>, AllocError> {
-    let nodes = family.nodes.as_slice();
     let mut costs = Vec::new(alloc);
-    for setting in 0..settings(networks::reticulations(nodes)) {
-        let tree = DisplayedTree::new(alloc, nodes, setting)?;
+    for setting in 0..settings(family.network.reticulations()) {
+        let tree = DisplayedTree::new(alloc, &family.network, setting)?;
         let mapping = Mapping::new(alloc, &tree, family.genes.as_slice())?;
         costs.push(mapping.cost(family.costs))?;
     }

@@ -1,6 +1,6 @@
 // What a sheet says, read from its bytes.
 use super::lines::{LINE, Line, parent_numbered};
-use super::networks::Node;
+use super::networks::{Network, Node};
 use std::alloc::{AllocError, Global};
 
 // What a duplication, a transfer and a loss cost.
@@ -26,7 +26,7 @@ pub(crate) struct Gene {
 
 #[derive(Drop)]
 pub(crate) struct Family {
-    pub nodes: Vec<Node>,
+    pub network: Network,
     pub genes: Vec<Gene>,
     pub costs: Costs,
 }
@@ -49,11 +49,15 @@ impl Gene {
         let mut children = genes
             .iter()
             .enumerate()
-            .filter(|(_, line)| parent_numbered(line.0[1]) == Some(g))
+            .filter(|(_, Line([_, parent, ..]))| parent_numbered(*parent) == Some(g))
             .map(|(child, _)| child);
         let end = match (children.next(), children.next()) {
             (Some(a), Some(b)) => End::Children(a, b),
-            _ => End::Leaf(nodes.iter().position(|line| line.0[4] == species)?),
+            _ => End::Leaf(
+                nodes
+                    .iter()
+                    .position(|Line([.., other])| *other == species)?,
+            ),
         };
         Some(Gene {
             parent: parent_numbered(parent),
@@ -82,12 +86,12 @@ impl Family {
             transfer,
             loss,
         };
-        let read: Option<Vec<Gene>> = (0..genes.len())
+        let genes: Option<Vec<Gene>> = (0..genes.len())
             .map(|g| Gene::read(g, genes, nodes))
             .collect(alloc)?;
         let nodes = nodes.iter().map(Node::read).collect(alloc)?;
-        Ok(read.map(|genes| Family {
-            nodes,
+        Ok(genes.map(|genes| Family {
+            network: Network { nodes },
             genes,
             costs,
         }))
@@ -97,6 +101,7 @@ impl Family {
 // The header, the lines of the nodes and those of the genes.
 fn parted(lines: &[Line]) -> Option<(&Line, &[Line], &[Line])> {
     let (header, others) = lines.split_first()?;
-    let (nodes, genes) = others.split_at_checked(header.0[0])?;
+    let Line([nodes, ..]) = *header;
+    let (nodes, genes) = others.split_at_checked(nodes)?;
     Some((header, nodes, genes))
 }

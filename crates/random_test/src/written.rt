@@ -1,7 +1,11 @@
 // What a call writes into its buffers.
 use super::lines::{LINE, Line};
 
-// What result and scratch are filled with before a sheet is scored.
+// The least buffers that a call takes, and what they are filled with before.
+pub(crate) const RESULT_BYTES: usize = 5952;
+
+pub(crate) const SCRATCH_WORDS: usize = 16129;
+
 pub(crate) const BYTE: u8 = 170;
 
 pub(crate) const WORD: u32 = 2863311530;
@@ -25,7 +29,7 @@ impl Written<'_> {
 
     // The whole-network cost of a report: the first number of its second line.
     pub(crate) fn whole(&self) -> Option<usize> {
-        let Line([whole, _, _, _, _]) = Line::read(self.result.chunks_exact(LINE).nth(1)?)?;
+        let Line([whole, ..]) = Line::read(self.result.chunks_exact(LINE).nth(1)?)?;
         Some(whole)
     }
 }
