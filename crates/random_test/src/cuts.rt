@@ -1,94 +1,111 @@
 // Components by the definition: an arc is cut if its ends are parted without it, and a component is topped by the root or by the end of a cut arc.
-use super::board::{Board, HEADER, NODES, PRINCIPAL, SECONDARY, TOP, add, get, occurrences, set};
+use super::networks::Network;
 use super::settings::settings;
+use std::alloc::{AllocError, Global};
 
-// What is seen from a node: a row of a board of its own.
-const SEEN: u32 = 0;
-
-// The arc from a parent to w shows each of its ends to the other; parent 0 is none.
-fn join(seen: &mut Board, parent: u32, w: u32) {
-    if parent == 0 || get(seen, SEEN, parent) == get(seen, SEEN, w) {
-        return;
-    }
-    set(seen, SEEN, parent, 1);
-    set(seen, SEEN, w, 1);
-}
-
-// All arcs but the principal one into `cut`.
-fn join_all(seen: &mut Board, t: &Board, cut: u32) {
-    let mut w = get(t, HEADER, NODES);
-    while 0 < w {
-        if w != cut {
-            join(seen, get(t, PRINCIPAL, w), w);
-        }
-        join(seen, get(t, SECONDARY, w), w);
-        w -= 1;
-    }
-}
-
-// Whether the principal arc into v is all that joins it to its parent; the root has no parent, which is not seen.
-fn is_cut(t: &Board, v: u32) -> bool {
-    let mut seen = [0u32; 1024];
-    set(&mut seen, SEEN, v, 1);
-    let mut left = get(t, HEADER, NODES);
-    while 0 < left {
-        join_all(&mut seen, t, v);
-        left -= 1;
-    }
-    get(&seen, SEEN, get(t, PRINCIPAL, v)) == 0
-}
-
-fn top(t: &Board, v: u32) -> u32 {
-    let mut a = v;
-    let mut left: u32 = 32;
-    while 0 < left {
-        if is_cut(t, a) {
-            return a;
-        }
-        a = get(t, PRINCIPAL, a);
-        left -= 1;
-    }
-    a
-}
-
-// Writes the tops of all reticulations.
-pub(crate) fn find_tops(t: &mut Board) {
-    let mut v = get(t, HEADER, NODES);
-    while 0 < v {
-        if get(t, SECONDARY, v) != 0 {
-            let a = top(t, v);
-            set(t, TOP, v, a);
-        }
-        v -= 1;
-    }
-}
-
-// The components with a reticulation, and the trials of all of them.
+// The nodes that are joined to one of them.
 #[derive(Drop)]
-pub(crate) struct Sizes {
-    pub components: u32,
-    pub trials: u32,
+struct Joined {
+    nodes: Vec<bool>,
 }
 
-fn with_component(sizes: Sizes, reticulations: u32) -> Sizes {
-    if reticulations == 0 {
-        return sizes;
+impl Joined {
+    fn contains(&self, v: usize) -> bool {
+        self.nodes.get(v) == Some(&true)
     }
-    Sizes {
-        components: add(sizes.components, 1),
-        trials: add(sizes.trials, settings(reticulations)),
+
+    fn insert(&mut self, v: usize) {
+        if let Some(joined) = self.nodes.get_mut(v) {
+            *joined = true;
+        }
+    }
+
+    // An arc from a parent to w joins each of its ends to the other.
+    fn join(&mut self, parent: Option<usize>, w: usize) {
+        if let Some(v) = parent
+            && self.contains(v) != self.contains(w)
+        {
+            self.insert(v);
+            self.insert(w);
+        }
+    }
+
+    // All arcs but the principal one into `cut`.
+    fn join_all(&mut self, network: &Network, cut: usize) {
+        for (w, node) in network.nodes.iter().enumerate() {
+            self.join(node.principal.filter(|_| w != cut), w);
+            self.join(node.secondary, w);
+        }
     }
 }
 
-pub(crate) fn add_up(t: &Board) -> Sizes {
-    let mut r = Sizes {
-        components: 0,
-        trials: 0,
+// Whether the principal arc into v from its parent is all that joins them.
+fn is_cut(alloc: Global, network: &Network, parent: usize, v: usize) -> Result<bool, AllocError> {
+    let mut joined = Joined {
+        nodes: vec![in alloc; false; network.len()]?,
     };
-    let mut v = get(t, HEADER, NODES);
-    while 0 < v {
-        r = with_component(r, occurrences(t, TOP, v));
-        v -= 1;
+    joined.insert(v);
+    for _ in 0..network.len() {
+        joined.join_all(network, v);
     }
-    r
+    Ok(!joined.contains(parent))
+}
+
+// The top of the component of v.
+fn top(alloc: Global, network: &Network, v: usize) -> Result<usize, AllocError> {
+    let mut a = v;
+    for _ in 0..network.len() {
+        match network.principal(a) {
+            Some(parent) if !is_cut(alloc, network, parent, a)? => a = parent,
+            _ => return Ok(a),
+        }
+    }
+    Ok(a)
+}
+
+// The components, by the tops of all reticulations; other nodes have none here.
+#[derive(Drop)]
+pub(crate) struct Components {
+    tops: Vec<Option<usize>>,
+}
+
+impl Components {
+    pub(crate) fn find(alloc: Global, network: &Network) -> Result<Components, AllocError> {
+        let mut tops = Vec::new(alloc);
+        for (v, node) in network.nodes.iter().enumerate() {
+            tops.push(match node.secondary {
+                Some(_) => Some(top(alloc, network, v)?),
+                None => None,
+            })?;
+        }
+        Ok(Components { tops })
+    }
+
+    pub(crate) fn top(&self, v: usize) -> Option<usize> {
+        *self.tops.get(v)?
+    }
+
+    // How many reticulations the component below a top has.
+    pub(crate) fn reticulations(&self, top: usize) -> usize {
+        self.tops
+            .iter()
+            .filter(|other| **other == Some(top))
+            .count()
+    }
+
+    // The components with a reticulation.
+    pub(crate) fn count(&self) -> usize {
+        (0..self.tops.len())
+            .filter(|v| self.reticulations(*v) != 0)
+            .count()
+    }
+
+    // The settings of each component with a reticulation, added up.
+    pub(crate) fn trials(&self) -> usize {
+        (0..self.tops.len())
+            .map(|v| self.reticulations(v))
+            .filter(|reticulations| *reticulations != 0)
+            .map(settings)
+            .fold(0, usize::saturating_add)
+    }
 }

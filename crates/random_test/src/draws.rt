@@ -1,29 +1,27 @@
-// Pseudo-random numbers: each is worked out from the number of the sheet and the number of the draw, so no state is handed on.
-use super::board::{Board, NUMBER, get, set};
-use std::num::wrapping_add_u32;
+// Pseudo-random numbers: each is worked out from the number of the sheet, what it is for and its own number, so no state is handed on.
+ghost use Rattle.std.specs.Prelude.{◌<◌};
 
-// What draws are for. Those from 32 on are for genes: what becomes of gene g at a node is for 32 + g.
-pub(crate) const SHAPE: u32 = 0;
+use super::lines::number;
+use std::alloc::{AllocError, Global};
 
-pub(crate) const DAMAGE: u32 = 1;
+// What draws are for; those for what becomes of a gene at a node come after.
+#[derive(Clone, Copy)]
+pub(crate) enum Purpose {
+    Shape,
+    Damage,
+    CostKind,
+    Cost,
+    Shuffle,
+    Lineage,
+    Receiver,
+    Will,
+    Stray,
+    StrayLeaf,
+    Copies,
+}
 
-pub(crate) const COST_KIND: u32 = 2;
-
-pub(crate) const COST: u32 = 3;
-
-pub(crate) const SHUFFLE: u32 = 4;
-
-pub(crate) const LINEAGE: u32 = 5;
-
-pub(crate) const RECEIVER: u32 = 6;
-
-pub(crate) const WILL: u32 = 7;
-
-pub(crate) const STRAY: u32 = 8;
-
-pub(crate) const STRAY_LEAF: u32 = 9;
-
-pub(crate) const COPY: u32 = 10;
+// The first purpose of those that are a gene's.
+const FATES: usize = 32;
 
 // A one-to-one map of the words of 32 bits (xorshift).
 fn mixed(x: u32) -> u32 {
@@ -32,52 +30,59 @@ fn mixed(x: u32) -> u32 {
     b ^ (b << 5)
 }
 
-// A number below `end`, or 0: draw i of those for one purpose. Sums between the maps, since the maps alone are linear.
-pub(crate) fn draw(sheet: u32, purpose: u32, i: u32, end: u32) -> u32 {
-    if end == 0 {
-        return 0;
-    }
-    let a = mixed(wrapping_add_u32(sheet, 2654435769));
-    let b = mixed(wrapping_add_u32(a, 32 * (purpose % 64) + i % 32));
-    let c = mixed(wrapping_add_u32(b, 2246822507));
-    (c >> 8) % end
+// The draws of one sheet.
+#[derive(Clone, Copy)]
+pub(crate) struct Draws {
+    pub sheet: u32,
 }
 
-// A column of a row that does not hold 0, other than `but`: the first going round from a drawn one; 0 where there is none.
-pub(crate) fn choose(t: &Board, row: u32, but: u32, drawn: u32) -> u32 {
-    let mut i: u32 = 31;
-    while 0 < i {
-        let v = 1 + (drawn % 31 + i % 32) % 31;
-        if get(t, row, v) != 0 {
-            if v != but {
-                return v;
-            }
+impl Draws {
+    // Draw i of the 32 for one purpose of 64. Sums between the maps, since the maps alone are linear.
+    fn draw(self, purpose: usize, i: usize) -> usize {
+        let place = (32 * (purpose % 64) + i % 32) as u32;
+        let a = mixed(self.sheet.wrapping_add(2654435769));
+        let b = mixed(a.wrapping_add(place));
+        let c = mixed(b.wrapping_add(2246822507));
+        (c >> 8) as usize
+    }
+
+    // Draw i of those for one purpose, as a number below `end`; 0 where there is none.
+    pub(crate) fn below(self, purpose: Purpose, i: usize, end: usize) -> usize
+        ensures { 0 < end → result < end }
+    {
+        self.draw(purpose as usize, i).checked_rem(end).unwrap_or(0)
+    }
+
+    // What becomes of a gene at a node, one of 16 fates.
+    pub(crate) fn fate(self, gene: usize, node: usize) -> usize {
+        self.draw(FATES + number(gene) % 32, number(node)) % 16
+    }
+
+    // One of some nodes: the last of those up to a drawn one, or else the last of all.
+    pub(crate) fn choose(self, nodes: &[usize], purpose: Purpose, i: usize) -> Option<usize> {
+        let drawn = self.below(purpose, i, 31);
+        let before = nodes.iter().copied().filter(|v| *v <= drawn).max();
+        before.or(nodes.iter().copied().max())
+    }
+
+    // The numbers 1 to n in a random order.
+    pub(crate) fn shuffled(self, alloc: Global, n: usize) -> Result<Vec<usize>, AllocError> {
+        let mut numbers = Vec::new(alloc);
+        for i in 1..=n {
+            numbers.push(i)?;
+            let last = numbers.len() - 1;
+            let other = self.below(Purpose::Shuffle, i, numbers.len());
+            numbers.swap(other, last);
         }
-        i -= 1;
+        Ok(numbers)
     }
-    0
-}
 
-// The numbers 1 to n in a random order.
-pub(crate) fn shuffle(t: &mut Board, sheet: u32, n: u32) {
-    let mut i: u32 = 0;
-    while i < n {
-        i += 1;
-        let j = 1 + draw(sheet, SHUFFLE, i, i) % 32;
-        let moved = get(t, NUMBER, j);
-        set(t, NUMBER, i, moved);
-        set(t, NUMBER, j, i);
+    // A cost: now and then 0, mostly small, so that settings tie.
+    pub(crate) fn cost(self, i: usize) -> usize {
+        match self.below(Purpose::CostKind, i, 8) {
+            0 => 0,
+            1 => self.below(Purpose::Cost, i, 100),
+            _ => 1 + self.below(Purpose::Cost, i, 4),
+        }
     }
-}
-
-// A cost: now and then 0, mostly small, so that settings tie.
-pub(crate) fn cost(sheet: u32, i: u32) -> u32 {
-    let kind = draw(sheet, COST_KIND, i, 8);
-    if kind == 0 {
-        return 0;
-    }
-    if kind == 1 {
-        return draw(sheet, COST, i, 100);
-    }
-    1 + draw(sheet, COST, i, 4) % 4
 }

@@ -1,77 +1,118 @@
 // Random family sheets: a network, a gene tree and costs, spelled, and on some sheets damaged.
-use super::board::{
-    Board, GENES, HEADER, KIND, MOTHER, NODES, NUMBER, PRINCIPAL, SECONDARY, STAMP, get, times,
-};
-use super::draws::{DAMAGE, SHAPE, cost, draw, shuffle};
-use super::gene_trees::{descend, species};
-use super::networks::grow;
-use super::settings::turn;
-use super::text::{Text, set_byte, spell, spell_field, start_of};
+use super::draws::{Draws, Purpose};
+use super::gene_trees::{Gene, descend};
+use super::growth::Growth;
+use super::lines::{LINE, Line, number, parent_number};
+use std::alloc::{AllocError, Global};
 
-// The line of node v, by the nodes' numbers on the sheet.
-fn spell_node(text: &mut Text, t: &Board, v: u32) {
-    let at = get(t, NUMBER, v);
-    let p = get(t, NUMBER, get(t, PRINCIPAL, v));
-    let s = get(t, NUMBER, get(t, SECONDARY, v));
-    spell(text, at, at, p, s, get(t, STAMP, v), species(t, v));
+// The numbers of the nodes on the sheet.
+#[derive(Drop)]
+struct Numbers {
+    nodes: Vec<usize>,
 }
 
-fn spell_nodes(text: &mut Text, t: &Board, n: u32) {
-    let mut v = n;
-    while 0 < v {
-        spell_node(text, t, v);
-        v -= 1;
+impl Numbers {
+    fn of(&self, v: usize) -> usize {
+        self.nodes.get(v).copied().unwrap_or(0)
+    }
+
+    // The number of a parent; 0 is none.
+    fn of_parent(&self, parent: Option<usize>) -> usize {
+        parent.map_or(0, |v| self.of(v))
+    }
+
+    // The species of a leaf. It is not the leaf's number, but tells it: 13 is odd, so no two of 32 numbers have the same.
+    fn species(&self, leaf: usize) -> usize {
+        1 + 100 * (13 * (self.of(leaf) % 32) % 32)
+    }
+
+    // The species of a gene or a node that may be at a leaf; 0 is none.
+    fn species_at(&self, leaf: Option<usize>) -> usize {
+        leaf.map_or(0, |v| self.species(v))
     }
 }
 
-fn spell_genes(text: &mut Text, t: &Board, n: u32, m: u32) {
-    let mut g = m;
-    while 0 < g {
-        spell(
-            text,
-            n % 32 + g % 32,
-            g,
-            get(t, MOTHER, g),
-            get(t, KIND, g),
-            0,
-            0,
-        );
-        g -= 1;
+// The first line of a sheet. On half of the sheets a transfer is free: then settings with different arcs on tie.
+fn header(draws: Draws, nodes: usize, genes: usize) -> Line {
+    let transfer = match draws.below(Purpose::Shape, 4, 2) {
+        0 => 0,
+        _ => draws.cost(1),
+    };
+    Line([nodes, genes, draws.cost(0), transfer, draws.cost(2)])
+}
+
+// The lines of the nodes, in the order of their numbers.
+fn node_lines(alloc: Global, growth: &Growth, numbers: &Numbers) -> Result<Vec<Line>, AllocError> {
+    let mut lines = Vec::new(alloc);
+    for (v, node) in growth.network.nodes.iter().enumerate() {
+        let leaf = growth.live.contains(&v).then_some(v);
+        lines.push(Line([
+            numbers.of(v),
+            numbers.of_parent(node.principal),
+            numbers.of_parent(node.secondary),
+            node.stamp,
+            numbers.species_at(leaf),
+        ]))?;
+    }
+    lines.sort_unstable_by_key(|Line([number, ..])| *number);
+    Ok(lines)
+}
+
+fn gene_line(g: usize, gene: &Gene, numbers: &Numbers) -> Line {
+    let parent = parent_number(gene.parent);
+    Line([number(g), parent, numbers.species_at(gene.leaf), 0, 0])
+}
+
+// Another number in one field.
+fn damage_field(draws: Draws, lines: &mut [Line]) {
+    let damaged = draws.below(Purpose::Damage, 1, lines.len());
+    let field = draws.below(Purpose::Damage, 2, 5);
+    if let Some(line) = lines.get_mut(damaged) {
+        line.0[field] = draws.below(Purpose::Damage, 3, 32);
     }
 }
 
-// One sheet in ten gets another number in one field, and one in twenty another byte.
-fn damage(text: &mut Text, sheet: u32, lines: u32) {
-    let kind = draw(sheet, DAMAGE, 0, 20);
-    let line = draw(sheet, DAMAGE, 1, lines);
-    let other = draw(sheet, DAMAGE, 3, 32);
-    if kind < 2 {
-        spell_field(text, line, draw(sheet, DAMAGE, 2, 5), other);
-    }
-    if kind == 2 {
-        set_byte(
-            text,
-            start_of(line, 0) + other % 31,
-            b' ' + (other % 32) as u8,
-        );
+// Another byte.
+fn damage_byte(draws: Draws, text: &mut [u8]) {
+    let line = draws.below(Purpose::Damage, 1, text.len() / LINE);
+    let other = draws.below(Purpose::Damage, 3, 32);
+    let damaged = text.chunks_exact_mut(LINE).nth(line);
+    if let Some(byte) = damaged.and_then(|line| line.get_mut(other % LINE)) {
+        *byte = b' ' + other as u8;
     }
 }
 
-// Writes a random sheet, and returns how many lines it has.
-pub(crate) fn spell_sheet(text: &mut Text, sheet: u32) -> u32 {
-    let mut t = [0u32; 1024];
-    grow(&mut t, sheet);
-    let n = get(&t, HEADER, NODES);
-    shuffle(&mut t, sheet, n);
-    turn(&mut t, draw(sheet, SHAPE, 2, 64));
-    descend(&mut t, sheet);
-    let m = get(&t, HEADER, GENES);
-    // On half of the sheets a transfer is free: then settings with different arcs on tie.
-    let transfer = times(cost(sheet, 1), draw(sheet, SHAPE, 4, 2));
-    spell(text, 0, n, m, cost(sheet, 0), transfer, cost(sheet, 2));
-    spell_nodes(text, &t, n);
-    spell_genes(text, &t, n, m);
-    let lines = 1 + n % 32 + m % 32;
-    damage(text, sheet, lines);
-    lines
+// A random sheet: one in ten is damaged in a field, and one in twenty in a byte.
+pub(crate) fn sheet(alloc: Global, draws: Draws) -> Result<Vec<u8>, AllocError> {
+    let growth = Growth::of(alloc, draws)?;
+    let genes = descend(alloc, draws, &growth)?;
+    let nodes = growth.network.len();
+    let numbers = Numbers {
+        nodes: draws.shuffled(alloc, nodes)?,
+    };
+    let mut lines = vec![in alloc; header(draws, nodes, genes.len())]?;
+    lines.extend(node_lines(alloc, &growth, &numbers)?)?;
+    lines.extend(
+        genes
+            .iter()
+            .enumerate()
+            .map(|(g, gene)| gene_line(g, gene, &numbers)),
+    )?;
+    let damage = draws.below(Purpose::Damage, 0, 20);
+    if damage < 2 {
+        damage_field(draws, lines.as_mut_slice());
+    }
+    let mut text = spell(alloc, lines.as_slice())?.into_bytes();
+    if damage == 2 {
+        damage_byte(draws, text.as_mut_slice());
+    }
+    Ok(text)
+}
+
+fn spell(alloc: Global, lines: &[Line]) -> Result<String, AllocError> {
+    let mut text = String::new(alloc);
+    for line in lines {
+        write!(text, "{line}")?;
+    }
+    Ok(text)
 }
