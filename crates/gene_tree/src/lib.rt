@@ -7,6 +7,7 @@ ghost use Rattle.tables.specs.Columns.{column, blank, Clear};
 ghost use Rattle.tables.specs.Children.{next};
 ghost use Rattle.layout.specs.Lines.{nodes_in, genes_in};
 ghost use Rattle.layout.specs.inner.Genes.{gene_tree, leaf_column, parent_column};
+ghost use Rattle.refusals.specs.Numbers.{refused};
 ghost use Rattle.gene_tree.specs.Refusals.{bad_parent, bad_count, refusal12, bearer, bad_species, refusal13, species_refusals, gene_refusals};
 ghost use Rattle.gene_tree.specs.Genes.{leaf_of, gene_tree_of};
 ghost use Rattle.gene_tree.specs.inner.Work.{child_count_column, ChildCounts, Bearers};
@@ -14,6 +15,7 @@ ghost use Rattle.gene_tree.specs.inner.Work.{child_count_column, ChildCounts, Be
 use layout::genes::Genes;
 use layout::lines::{Lines, gene_parent, gene_species, node_species};
 use layout::{genes, lines};
+use refusals::Refusal;
 use tables::Table;
 use text_lines::FIELDS;
 
@@ -144,32 +146,32 @@ fn thirteen(n: usize, m: usize, lines: &Lines, work: &Table) -> bool
     false
 }
 
-// The first refusal from 13 on that applies, 0 where none does.
-fn from_thirteen(n: usize, m: usize, lines: &Lines, work: &Table) -> u32
+// The first refusal from 13 on that applies.
+fn from_thirteen(n: usize, m: usize, lines: &Lines, work: &Table) -> Result<(), Refusal>
     requires { (n ≤ 127) × (m ≤ 127) × ChildCounts (genes_in n m lines.now) work.now × Bearers (nodes_in n lines.now) work.now }
-    ensures { result ≡ verdict (species_refusals (nodes_in n lines.now) (genes_in n m lines.now)) }
+    ensures { refused result ≡ verdict (species_refusals (nodes_in n lines.now) (genes_in n m lines.now)) }
 {
     if thirteen(n, m, lines, work) {
-        return 13;
+        return Err(Refusal::BadGeneSpecies);
     }
-    0
+    Ok(())
 }
 
 // The same from 12 on.
-fn from_twelve(n: usize, m: usize, lines: &Lines, work: &Table) -> u32
+fn from_twelve(n: usize, m: usize, lines: &Lines, work: &Table) -> Result<(), Refusal>
     requires { (n ≤ 127) × (m ≤ 127) × ChildCounts (genes_in n m lines.now) work.now × Bearers (nodes_in n lines.now) work.now }
-    ensures { result ≡ verdict (gene_refusals (nodes_in n lines.now) (genes_in n m lines.now)) }
+    ensures { refused result ≡ verdict (gene_refusals (nodes_in n lines.now) (genes_in n m lines.now)) }
 {
     if twelve(n, m, lines, work) {
-        return 12;
+        return Err(Refusal::BadGeneTree);
     }
     from_thirteen(n, m, lines, work)
 }
 
-// The first of the gene lines' refusals that applies, 0 where none does, for any lines of n nodes and m genes.
-pub fn verdict(n: usize, m: usize, lines: &Lines) -> u32
+// The first of the gene lines' refusals that applies, for any lines of n nodes and m genes.
+pub fn verdict(n: usize, m: usize, lines: &Lines) -> Result<(), Refusal>
     requires { (n ≤ 127) × (m ≤ 127) }
-    ensures { result ≡ verdict (gene_refusals (nodes_in n lines.now) (genes_in n m lines.now)) }
+    ensures { refused result ≡ verdict (gene_refusals (nodes_in n lines.now) (genes_in n m lines.now)) }
 {
     let mut work = [0u32; 512];
     note_bearers(n, lines, &mut work);
