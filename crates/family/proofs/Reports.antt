@@ -28,13 +28,14 @@ use Rattle.layout.specs.inner.Genes.{gene_tree}
 use Rattle.layout.specs.inner.Choices.{best as chosen_setting}
 use Rattle.layout.specs.Headers.{costs}
 use Rattle.layout.specs.declared.Header.{Header}
+use Rattle.layout.specs.declared.results.Placed.{Placed}
 use Rattle.network.proofs.Acceptance.{no_others}
 use Rattle.reconciliation.specs.GeneTrees.{GeneTree}
 use Rattle.reconciliation.specs.Costs.{Costs}
 use Rattle.displayed.specs.Model.{place, event, transfers, losses}
 use Rattle.gene_tree.specs.Genes.{gene_tree_of}
 use Rattle.gene_tree.proofs.Genes.{count_at}
-use Rattle.optimum.specs.Optimum.{assembled, chosen, trials, best}
+use Rattle.optimum.specs.Optimum.{assembled, chosen, best}
 use Rattle.search.specs.inner.Prepared.{Prepared, score_under, Reconciled}
 use Rattle.search.specs.inner.Searched.{Searched}
 use Rattle.search.specs.declared.Found.{Found}
@@ -134,7 +135,7 @@ module _ (h : Header) (lines : List ℕ) (b w : ℕ) (S : Sized h b w) (P : Pass
       table_is = whole_network.table
 
       -- what the search found: its switching is the one reported
-      module _ (choices tree results : List ℕ) (f : Found) (F : Searched h lines genes choices tree results f) where
+      module _ (choices tree : List ℕ) (results : List Placed) (f : Found) (F : Searched h lines genes choices tree results f) where
         searched_bests : (c : ℕ) → 1 ≤ c → c ≤ h.nodes → chosen_setting choices c ≡ best N G C c
         searched_bests = rw tree_is at F.bests
 

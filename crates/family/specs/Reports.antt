@@ -2,7 +2,6 @@
 -- Assumes nothing.
 use Rattle.std.specs.Prelude.{◌≡◌, List, ◌++◌, ℕ, ◌+◌, ◌≤◌, ◌<◌, get_or}
 use Rattle.finite.specs.Tests.{tally}
-use Rattle.finite.specs.Range.{count}
 use Rattle.topology.specs.Networks.{Node, Reticulation, is_reticulation, reticulations}
 use Rattle.topology.specs.Switchings.{Switching, on_secondary, parent}
 use Rattle.topology.specs.Lines.{Gene}

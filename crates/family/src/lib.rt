@@ -13,33 +13,16 @@ ghost use Rattle.family.specs.inner.Stages.{contents_by, Sized, Passed, Worked, 
 use layout::genes::Genes;
 use layout::lines::Lines;
 use layout::parts::Parts;
-use layout::{Header, parts};
+use layout::{Header, lines, parts, results};
 use report::Totals;
 use search::Found;
-
-// 1 for a number that is not 0.
-fn is_some(x: usize) -> u32
-    ensures { (result ≡ tally (not (same x 0))) × (result ≤ 1) }
-{
-    if x == 0 {
-        return 0;
-    }
-    1
-}
 
 // How many nodes are reticulations.
 fn reticulations(n: usize, lines: &Lines) -> u32
     requires { n ≤ 127 }
     ensures { result ≡ count n (is_reticulation (network (nodes_in n lines.now))) }
 {
-    let mut r: u32 = 0;
-    let mut v: usize = 0;
-    while v < n {
-        let w = v + 1;
-        r += is_some(layout::lines::secondary(lines, w));
-        v = w;
-    }
-    r
+    (1..=n).filter(|v| lines::secondary(lines, *v) != 0).count() as u32
 }
 
 // How many components have a reticulation.
@@ -47,14 +30,9 @@ fn components_with_any(n: usize, parts: &Parts) -> u32
     requires { n ≤ 127 }
     ensures { result ≡ count n (λ c. not (same (reticulation_count parts.now c) 0)) }
 {
-    let mut r: u32 = 0;
-    let mut v: usize = 0;
-    while v < n {
-        let w = v + 1;
-        r += is_some(parts::reticulation_count(parts, w) as usize);
-        v = w;
-    }
-    r
+    (1..=n)
+        .filter(|c| parts::reticulation_count(parts, *c) != 0)
+        .count() as u32
 }
 
 // The numbers of the report's first two lines.
@@ -69,7 +47,7 @@ fn totals(h: Header, lines: &Lines, parts: &Parts, found: Found, whole: u32) -> 
         transfers: score.transfers,
         losses: score.losses,
         trials: found.trials,
-        whole: whole,
+        whole,
         nodes: h.nodes as u32,
         genes: h.genes as u32,
         reticulations: reticulations(h.nodes, lines),
@@ -91,7 +69,7 @@ fn write_worked(
 {
     let mut choices = [0u32; 512];
     let mut tree = [0u32; 512];
-    let mut results = [0u32; 512];
+    let mut results = [results::UNPLACED; 128];
     let found = search::run(
         h,
         lines,

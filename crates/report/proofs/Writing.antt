@@ -28,8 +28,8 @@ use Rattle.finite.proofs.Cases.{by_bool}
 use Rattle.report.specs.Reports.{five_of, totals_lines, lines_where, always, reticulation_fields, gene_fields, report_of, report_length, SmallFive, SmallTotals, Appended, Extended}
 
 -- five numbers that have fields
-pub small_five : (a b c d e : ℕ) → SmallFive a b c d e → Small (five_of a b c d e)
-small_five a b c d e h = record { small = at_each }
+pub small_five : (a b c d e : ℕ) (ns : List ℕ) → ns ≡ five_of a b c d e → SmallFive a b c d e → Small ns
+small_five a b c d e ns q h = rw q (record { small = at_each })
   where
     at_each : (i : ℕ) → get_or (five_of a b c d e) i 0 < 1000000
     at_each zero = h.one
@@ -42,10 +42,10 @@ small_five a b c d e h = record { small = at_each }
 -- the two lines of totals
 module _ (t : Totals) (h : SmallTotals t) where
   pub first_small : Small (five_of t.cost t.duplications t.transfers t.losses t.trials)
-  first_small = small_five _ _ _ _ _ (record { one = h.cost; two = h.duplications; three = h.transfers; four = h.losses; five = h.trials })
+  first_small = small_five _ _ _ _ _ _ refl (record { one = h.cost; two = h.duplications; three = h.transfers; four = h.losses; five = h.trials })
 
   pub second_small : Small (five_of t.whole t.nodes t.genes t.reticulations t.components)
-  second_small = small_five _ _ _ _ _ (record { one = h.whole; two = h.nodes; three = h.genes; four = h.reticulations; five = h.components })
+  second_small = small_five _ _ _ _ _ _ refl (record { one = h.whole; two = h.nodes; three = h.genes; four = h.reticulations; five = h.components })
 
 pub totals_written : (d e f : List ℕ) (next r : ℕ) (t : Totals) → (e ≡ put d 0 (line_of (five_of t.cost t.duplications t.transfers t.losses t.trials))) × (next ≡ line_length)
     → (f ≡ put e next (line_of (five_of t.whole t.nodes t.genes t.reticulations t.components))) × (r ≡ next + line_length) → (f ≡ written d (totals_lines t)) × (r ≡ 2 * line_length)
@@ -129,7 +129,7 @@ told_after t {d} {e} {start} {next} v x = let q : v ≡ v + 1 - 1 = omega arith 
 
 -- the numbers of a node's line and of a gene's have fields
 pub small_node : (tree parts : List ℕ) (v : ℕ) → v ≤ 127 → SmallNode tree parts v → Small (reticulation_numbers tree parts v)
-small_node tree parts v u s = small_five _ _ _ _ _ (record {
+small_node tree parts v u s = small_five _ _ _ _ _ _ refl (record {
   one = omega arith;
   two = s.taken;
   three = s.second;
@@ -138,7 +138,7 @@ small_node tree parts v u s = small_five _ _ _ _ _ (record {
 })
 
 pub small_gene : (results : List Placed) (g : ℕ) → g ≤ 127 → SmallGene results g → Small (gene_numbers results g)
-small_gene results g u s = small_five _ _ _ _ _ (record {
+small_gene results g u s = small_five _ _ _ _ _ _ refl (record {
   one = omega arith;
   two = omega (arith, s.place);
   three = omega (arith, s.event);

@@ -1,12 +1,13 @@
 -- The search, the whole network and the report ask what the verdicts and the tables give, and what they leave is the outcome (proofs/Reports).
 -- Assumes nothing.
 use Rattle.tables.specs.Columns.{blank}
+use Rattle.layout.specs.inner.Results.{blank as blank_results}
 use mathlib.Core.Path.{refl}
 use Rattle.family.proofs.Reports.{prepares, whole_ready, whole_room, nodes_small, genes_small, report_room, totals_fit, written_family}
 use Rattle.family.proofs.write_worked.Goals as goal
 
 pub run-found-requires : goal.run-found-requires
-unfolding blank
+unfolding blank blank_results
 run-found-requires c = let E = c.requires in (prepares _ _ _ _ E.sized E.passed _ _ E, refl, refl, refl)
 
 pub fill-whole-requires : goal.fill-whole-requires
