@@ -1,6 +1,5 @@
 -- `components::count_node` meets its contract. What the top has counted is the index of the reticulation, and then one more.
 -- Assumes nothing.
-use native.Mathlib.Omega.{arith}
 use borrow.Author.Rules.{rules}
 use Rattle.components.proofs.Filling.{node_skip, node_top, node_count, node_next}
 use Rattle.components.proofs.count_node.Goals as goal
@@ -20,7 +19,8 @@ overflow_add-k c = let s = c.requires in
 
 pub put-requires-2 : goal.put-requires-2
 put-requires-2 c = let s = c.requires in
-    (omega arith, node_top _ _ s.limits.0 s.parted.0 _ s.limits.1 s.limits.2 _ s.parted.1 c.secondary.ensures c.if-secondary-eq0.false c.top-c.ensures)
+    let u = node_top _ _ s.limits.0 s.parted.0 _ s.limits.1 s.limits.2 _ s.parted.1 c.secondary.ensures c.if-secondary-eq0.false c.top-c.ensures in
+    search rules
 
 pub returns : goal.returns
 returns c = let s = c.requires in

@@ -1,5 +1,6 @@
 -- `components::climbs::mark_node` meets its contract. A node without a secondary parent has no way, any other the way from it to that parent.
 -- Assumes nothing.
+use borrow.Author.Rules.{rules}
 use Rattle.components.proofs.Ways.{ways_plain, ways_more, second_in}
 use Rattle.components.proofs.climbs.mark_node.Goals as goal
 
@@ -10,7 +11,7 @@ returns-then-s-eq0 c = let s = c.requires in
 pub mark_way-requires : goal.mark_way-requires
 mark_way-requires c = let s = c.requires in
     let u = second_in _ _ _ s.limits.1 s.limits.2 c.secondary-s.ensures s.sound.0 in
-    record { limits = (s.limits.0, s.limits.2, u, s.marked_ways.long); sound = s.sound }
+    record { limits = (s.limits.0, search rules, search rules, s.marked_ways.long); sound = s.sound }
 
 pub returns : goal.returns
 returns c = let s = c.requires in
