@@ -19,7 +19,7 @@ use Rattle.arcs.specs.inner.Arcs.{order, leaving_in}
 use Rattle.cell_costs.specs.inner.Costs.{Children, tip_cost, inner_cost}
 use Rattle.whole_network.specs.declared.Row.{Row}
 use Rattle.whole_network.specs.declared.Source.{Source}
-use Rattle.whole_network.specs.inner.Stages.{family, Ready, Filling, RowsIn, PartlyIn, KeptIn, Next}
+use Rattle.whole_network.specs.inner.Stages.{family, Ready, RowsIn, PartlyIn, KeptIn, Next}
 
 -- a leaf gene's step and an inner gene's are those of the clauses
 tip_step : (d t l : ℕ) (W : ℕ → ℕ → Cost) (g k v : ℕ) (o : Out) → tip_cost t l k (W g) o ≡ stepping d t l W g (tip k) v o
@@ -130,10 +130,6 @@ module _ {f : Source} {s : List ℕ} {r : Row} {i : ℕ} (T : Next f s r i) wher
         ≡ least (family f) r.gene (order f.arcs i)
     inner_least = rw (row_costs n s g r.start T.row.starts, row_costs n s (left f.genes.now g) a kind.1, row_costs n s (right f.genes.now g) b kind.2, ← outs)
         (inner_step f.header.duplication f.header.transfer f.header.loss (row n s) g (left f.genes.now g) (right f.genes.now g) v (F.out v) ∙ rw pair_is at step_least)
-
--- the words of the table written so far leave room as before
-pub filling_on : {f : Source} {s u : List ℕ} → Filling f s → KeptIn f s u → Filling f u
-filling_on S k = record { ready = S.ready; room = omega (arith, S.room, k.long) }
 
 -- a row begins, and is done
 module _ {f : Source} {s : List ℕ} (S : Ready f) where
