@@ -2,6 +2,7 @@
 -- Assumes nothing.
 use Rattle.std.proofs.Common.{◌≡◌, ℕ, ◌≤◌, List, [], ◌∷◌, get_or, arith, sym, ap, ◌∙◌, refl}
 use Rattle.std.specs.Prelude.{Result, Ok, Err}
+use Rattle.std.specs.Result.{IsErrAnd}
 use Rattle.refusals.specs.declared.Refusal.{Refusal}
 use Rattle.refusals.specs.declared.Refusal.TheVariants.{ShortScratch, ShortResult, NoHeader, BeyondLimits, BadLines, BadParents, BadStamps, BadShape, BadSpecies, OnlyReticulations, CrowdedComponent, BadGeneTree, BadGeneSpecies}
 use Rattle.refusals.specs.Numbers.{number, refused}
@@ -67,3 +68,8 @@ is_refusal (Err q) r e = ap Err (one q r e)
 pub passed : {A : Type 0} (x : Result A Refusal) → refused x ≡ 0 → (a : A) × (x ≡ Ok a)
 passed (Ok a) e = (a, refl)
 passed (Err r) e = absurd (omega (arith, some r))
+
+-- `?` hands a refusal on as it is
+pub handed_on : {A : Type 0} (x : Result A Refusal) (r : Refusal) → IsErrAnd x (λ q. q ≡ r) → x ≡ Err r
+handed_on (Ok a) r h = absurd h
+handed_on (Err q) r h = ap Err h

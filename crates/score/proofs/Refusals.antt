@@ -8,6 +8,9 @@ use mathlib.Core.Bool.{true, false}
 use mathlib.Core.List.{List, ◌++◌}
 use native.Mathlib.Omega.{arith}
 use Rattle.finite.specs.Tests.{under}
+use Rattle.refusals.specs.declared.Refusal.{Refusal as Reason}
+use Rattle.refusals.specs.Numbers.{number}
+use Rattle.refusals.proofs.Numbers.{some}
 use Rattle.finite.specs.Refusals.{verdict, AllTell, no_more, one_more}
 use Rattle.finite.proofs.Tests.{is_under, under_is, not_under}
 use Rattle.finite.proofs.Refusals.{tell, verdict_here, verdict_later, verdict_none, verdict_first, verdict_second, both_none, all_tell}
@@ -52,17 +55,17 @@ module _ (X : Contents) (o : NoOthers X.nodes) where
       (λ e. all_tell (component_refusals X.nodes) _ (components_tell X.nodes (sound_by e)) (λ _. gene_tell X.nodes X.genes))
 
   -- the curators' verdicts, one after the other
-  pub network_refuses : (k : ℕ) → k ≡ verdict (network_refusals X.nodes) → k ≢ 0 → verdict (curator_refusals X) ≡ k
+  pub network_refuses : (r : Reason) → number r ≡ verdict (network_refusals X.nodes) → verdict (curator_refusals X) ≡ number r
   unfolding curator_refusals
-  network_refuses k e d = verdict_first (network_refusals X.nodes) _ (network_tells X.nodes) k d (sym e)
+  network_refuses r e = verdict_first (network_refusals X.nodes) _ (network_tells X.nodes) (number r) (λ z. omega (arith, some r)) (sym e)
 
   module _ (e : verdict (network_refusals X.nodes) ≡ 0) where
     later : verdict (curator_refusals X) ≡ verdict (component_refusals X.nodes ++ gene_refusals X.nodes X.genes)
     unfolding curator_refusals
     later = verdict_second (network_refusals X.nodes) _ (network_tells X.nodes) e
 
-    pub component_refuses : (k : ℕ) → k ≢ 0 → verdict (component_refusals X.nodes) ≡ k → verdict (curator_refusals X) ≡ k
-    component_refuses k d q = later ∙ verdict_first (component_refusals X.nodes) _ (components_tell X.nodes (sound_by e)) k d q
+    pub component_refuses : (r : Reason) → number r ≡ verdict (component_refusals X.nodes) → verdict (curator_refusals X) ≡ number r
+    component_refuses r q = later ∙ verdict_first (component_refusals X.nodes) _ (components_tell X.nodes (sound_by e)) (number r) (λ z. omega (arith, some r)) (sym q)
 
     module _ (f : verdict (component_refusals X.nodes) ≡ 0) where
       last : verdict (curator_refusals X) ≡ verdict (gene_refusals X.nodes X.genes)
