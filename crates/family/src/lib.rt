@@ -15,7 +15,7 @@ use layout::lines::Lines;
 use layout::parts::Parts;
 use layout::{Header, lines, parts, results};
 use report::Totals;
-use search::Found;
+use search::{Found, Given, Work};
 
 // How many nodes are reticulations.
 fn reticulations(n: usize, lines: &Lines) -> u32
@@ -67,21 +67,22 @@ fn write_worked(
     requires { Worked h lines.now parts.now genes.now (length res.old) (length scratch.old) }
     ensures { Written (contents_by h lines.now) res.old res.new scratch.old scratch.new result }
 {
-    let mut choices = [0u32; 512];
-    let mut tree = [0u32; 512];
-    let mut results = [results::UNPLACED; 128];
-    let found = search::run(
-        h,
+    let given = Given {
+        header: h,
         lines,
         parts,
         genes,
-        &mut choices,
-        &mut tree,
-        &mut results,
-    );
+    };
+    let mut work = Work {
+        choices: [0; 512],
+        tree: [0; 512],
+        results: [results::UNPLACED; 128],
+    };
+    let found = search::run(&given, &mut work);
     let whole = whole_network::fill(h, lines, genes, scratch);
     let t = totals(h, lines, parts, found, whole);
-    report::write_report(res, t, h.nodes, h.genes, lines, &tree, parts, &results)
+    let Work { tree, results, .. } = &work;
+    report::write_report(res, t, h.nodes, h.genes, lines, tree, parts, results)
 }
 
 // Writes the report and the table of a family that no refusal applies to, and returns the bytes of the report.

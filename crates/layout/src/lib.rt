@@ -1,5 +1,5 @@
-// Where the numbers of a family stand: the lines of its sheet, and the tables of named columns that are worked out from them. Each column has an
-// accessor here; what is written goes through `tables::put` by the column's name.
+// Where the numbers of a family stand: the lines of its sheet, and the tables that are worked out from them. A column of a table of named columns has an
+// accessor here; what is written goes through `tables::put` by the column's name. What is found of a gene is a record.
 #![tactic(auto)]
 
 pub mod choices;

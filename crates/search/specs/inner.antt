@@ -1,3 +1,4 @@
 pub mod Prepared
 pub mod Steps
 pub mod Searched
+pub mod Works

@@ -1,16 +1,13 @@
 // 01's search, "a plain machine whose state is a value": the bests by top, in the table of choices, and the count of trials. All functions are lent one
-// prepared network and gene tree (specs/Prepared), and three tables to work in: the settings tried and the bests, the tree of a switching, and the genes
-// under it.
+// prepared network and gene tree (`Given`), and three tables to work in (`Work`).
 #![tactic(auto)]
 
 ghost use Rattle.std.specs.Prelude.{◌≡◌, ◌+◌, ◌≤◌, ◌<◌};
 ghost use Rattle.tables.specs.Columns.{entry, blank};
-ghost use Rattle.layout.specs.Headers.{costs};
 ghost use Rattle.layout.specs.inner.Results.{blank as blank_results};
 ghost use Rattle.optimum.specs.Optimum.{trials_of};
-ghost use Rattle.search.specs.inner.Prepared.{network_of, genes_of, Prepared, Working, Assembled};
-ghost use Rattle.search.specs.inner.Steps.{takes, Settling, SettledBy, Awaiting, Finished, Reached, Last};
-ghost use Rattle.search.specs.inner.Searched.{Searched};
+ghost use Rattle.search.specs.inner.Steps.{takes, Settling, SettledBy, Finished};
+ghost use Rattle.search.specs.inner.Works.{PreparedIn, WorkingIn, AssembledIn, AwaitingIn, ReachedIn, LastIn, SearchedIn};
 
 use layout::choices::Choices;
 use layout::genes::Genes;
@@ -20,6 +17,23 @@ use layout::results::Results;
 use layout::tree::Tree;
 use layout::{Header, choices, parts};
 use mapping::Score;
+
+// What is lent to the search: a network and a gene tree that passed the refusals, with all that does not depend on the switching worked out once.
+#[derive(Clone, Copy)]
+pub struct Given<'a> {
+    pub header: Header,
+    pub lines: &'a Lines,
+    pub parts: &'a Parts,
+    pub genes: &'a Genes,
+}
+
+// The tables that the search works in: the settings tried and the bests, the tree of a switching, and the genes under it.
+#[derive(Drop)]
+pub struct Work {
+    pub choices: Choices,
+    pub tree: Tree,
+    pub results: Results,
+}
 
 // Where the search stands: all settings of the components up to one are scored, and of the next component those below a setting, the best of which costs
 // the least; and so many settings are scored in all.
@@ -47,21 +61,21 @@ fn settings_of(k: u32) -> u32
 }
 
 // The score of the switching that has the settings of column k.
-fn evaluated(
-    h: Header,
-    lines: &Lines,
-    parts: &Parts,
-    genes: &Genes,
-    choices: &Choices,
-    k: usize,
-    t: &mut Tree,
-    r: &mut Results,
-) -> Score
-    requires { Prepared h lines.now parts.now genes.now × Working h lines.now genes.now t.old r.old × (k < 4) }
-    ensures { Assembled h lines.now genes.now (entry choices.now k) t.new r.new result }
+fn evaluated(given: &Given, work: &mut Work, k: usize) -> Score
+    requires { PreparedIn given.now × WorkingIn given.now work.old × (k < 4) }
+    ensures assembled { AssembledIn given.now (entry work.old.choices k) work.new result }
+    ensures choices { work.new.choices ≡ work.old.choices }
 {
-    switching::switch(h.nodes, lines, parts, choices, k, t);
-    mapping::evaluate(h, t, genes, r)
+    let n = given.header.nodes;
+    switching::switch(
+        n,
+        given.lines,
+        given.parts,
+        &work.choices,
+        k,
+        &mut work.tree,
+    );
+    mapping::evaluate(given.header, &work.tree, given.genes, &mut work.results)
 }
 
 // Whether setting x becomes the best of its component: it is the first, number 0, or costs less than the least so far.
@@ -88,24 +102,15 @@ fn settle(choices: &mut Choices, s: Stage, cost: u32) -> Stage
 }
 
 // "One step scores the next setting of a single component .. and raises the count by one".
-pub fn step(
-    h: Header,
-    lines: &Lines,
-    parts: &Parts,
-    genes: &Genes,
-    choices: &mut Choices,
-    t: &mut Tree,
-    r: &mut Results,
-    s: Stage,
-) -> Stage
-    requires prepared { Prepared h lines.now parts.now genes.now × Working h lines.now genes.now t.old r.old }
-    requires awaiting { Awaiting (network_of h lines.now) (genes_of h genes.now) (costs h) choices.old s }
-    ensures reached { Reached (network_of h lines.now) (genes_of h genes.now) (costs h) choices.new result × (result.done ≡ s.done) × (result.setting ≡ s.setting + 1) }
-    ensures working { Working h lines.now genes.now t.new r.new }
+pub fn step(given: &Given, work: &mut Work, s: Stage) -> Stage
+    requires prepared { PreparedIn given.now × WorkingIn given.now work.old }
+    requires awaiting { AwaitingIn given.now work.old s }
+    ensures reached { ReachedIn given.now work.new result × (result.done ≡ s.done) × (result.setting ≡ s.setting + 1) }
+    ensures working { WorkingIn given.now work.new }
 {
-    tables::put(choices, choices::SETTING, s.done + 1, s.setting);
-    let score = evaluated(h, lines, parts, genes, choices, choices::SETTING, t, r);
-    settle(choices, s, score.cost)
+    tables::put(&mut work.choices, choices::SETTING, s.done + 1, s.setting);
+    let score = evaluated(given, work, choices::SETTING);
+    settle(&mut work.choices, s, score.cost)
 }
 
 // All settings of the next component are scored: the one after it is next.
@@ -123,66 +128,42 @@ fn finish(choices: &mut Choices, s: Stage) -> Stage
 }
 
 // All settings of the next component, "by rising number".
-fn component(
-    h: Header,
-    lines: &Lines,
-    parts: &Parts,
-    genes: &Genes,
-    choices: &mut Choices,
-    t: &mut Tree,
-    r: &mut Results,
-    s: Stage,
-) -> Stage
-    requires prepared { Prepared h lines.now parts.now genes.now × Working h lines.now genes.now t.old r.old }
-    requires reached { Reached (network_of h lines.now) (genes_of h genes.now) (costs h) choices.old s × (s.done < h.nodes) × (s.setting ≡ 0) }
-    ensures reached_after { Reached (network_of h lines.now) (genes_of h genes.now) (costs h) choices.new result × (result.done ≡ s.done + 1) × (result.setting ≡ 0) }
-    ensures working { Working h lines.now genes.now t.new r.new }
+fn component(given: &Given, work: &mut Work, s: Stage) -> Stage
+    requires prepared { PreparedIn given.now × WorkingIn given.now work.old }
+    requires reached { ReachedIn given.now work.old s × (s.done < given.now.header.nodes) × (s.setting ≡ 0) }
+    ensures reached_after { ReachedIn given.now work.new result × (result.done ≡ s.done + 1) × (result.setting ≡ 0) }
+    ensures working { WorkingIn given.now work.new }
 {
-    let tried = settings_of(parts::reticulation_count(parts, s.done + 1));
+    let tried = settings_of(parts::reticulation_count(given.parts, s.done + 1));
     let mut stage = s;
     for _ in 0..tried {
-        stage = step(h, lines, parts, genes, choices, t, r, stage);
+        stage = step(given, work, stage);
     }
-    finish(choices, stage)
+    finish(&mut work.choices, stage)
 }
 
 // All components, "by rising top": the count of trials. A component without reticulations has no setting to score.
-fn components(
-    h: Header,
-    lines: &Lines,
-    parts: &Parts,
-    genes: &Genes,
-    choices: &mut Choices,
-    t: &mut Tree,
-    r: &mut Results,
-) -> u32
-    requires { Prepared h lines.now parts.now genes.now × Working h lines.now genes.now t.old r.old × (choices.old ≡ blank) }
-    ensures last { Last (network_of h lines.now) (genes_of h genes.now) (costs h) choices.new result }
-    ensures working { Working h lines.now genes.now t.new r.new }
+fn components(given: &Given, work: &mut Work) -> u32
+    requires { PreparedIn given.now × WorkingIn given.now work.old × (work.old.choices ≡ blank) }
+    ensures last { LastIn given.now work.new result }
+    ensures working { WorkingIn given.now work.new }
 {
     let mut stage = Stage::default();
-    for _ in 0..h.nodes {
-        stage = component(h, lines, parts, genes, choices, t, r, stage);
+    for _ in 0..given.header.nodes {
+        stage = component(given, work, stage);
     }
     stage.count
 }
 
 // The search: steps until no setting is left, then the switching of the last state's bests, its tree in one table and its genes in another.
-pub fn run(
-    h: Header,
-    lines: &Lines,
-    parts: &Parts,
-    genes: &Genes,
-    choices: &mut Choices,
-    t: &mut Tree,
-    r: &mut Results,
-) -> Found
-    requires { Prepared h lines.now parts.now genes.now × (choices.old ≡ blank) × (t.old ≡ blank) × (r.old ≡ blank_results) }
-    ensures { Searched h lines.now genes.now choices.new t.new r.new result }
+pub fn run(given: &Given, work: &mut Work) -> Found
+    requires { PreparedIn given.now × (work.old.choices ≡ blank) × (work.old.tree ≡ blank) × (work.old.results ≡ blank_results) }
+    ensures { SearchedIn given.now work.new result }
 {
-    switching::start(h.nodes, lines, parts, t);
-    mapping::seat_leaves(h.genes, genes, r);
-    let trials = components(h, lines, parts, genes, choices, t, r);
-    let score = evaluated(h, lines, parts, genes, choices, choices::BEST, t, r);
+    let h = given.header;
+    switching::start(h.nodes, given.lines, given.parts, &mut work.tree);
+    mapping::seat_leaves(h.genes, given.genes, &mut work.results);
+    let trials = components(given, work);
+    let score = evaluated(given, work, choices::BEST);
     Found { trials, score }
 }

@@ -2,10 +2,8 @@
 -- finished.
 -- Assumes nothing.
 use mathlib.Core.Path.{◌≡◌}
-use Rattle.search.specs.inner.Steps.{Reached}
-use Rattle.search.specs.inner.Prepared.{network_of, genes_of, Working}
-use Rattle.layout.specs.Headers.{costs}
+use Rattle.search.specs.inner.Works.{ReachedIn, WorkingIn}
 use Rattle.search.proofs.component.Given as goal
 
 abbrev pub invariant-loop : goal.invariant-loop
-invariant-loop l = (l.stage.done ≡ l.initial.stage.done) × (l.stage.setting ≡ l.counter) × Reached (network_of l.h l.lines) (genes_of l.h l.genes) (costs l.h) l.choices l.stage × Working l.h l.lines l.genes l.t l.r
+invariant-loop l = (l.stage.done ≡ l.initial.stage.done) × (l.stage.setting ≡ l.counter) × ReachedIn l.given l.work l.stage × WorkingIn l.given l.work

@@ -13,4 +13,4 @@ components-trials-requires c = let s = c.requires in
 
 pub returns : goal.returns
 returns c = let s = c.requires in
-    searched s.0 c.components-trials.ensures.last c.evaluated-score.ensures
+    rw c.evaluated-score.ensures.choices (searched s.0 c.components-trials.ensures.last c.evaluated-score.ensures.assembled)

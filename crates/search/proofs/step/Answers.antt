@@ -17,4 +17,5 @@ settle-requires c = let s = c.requires in
 
 pub returns : goal.returns
 returns c = let s = c.requires in
-    record { reached = step_reaches s.prepared.0 s.awaiting c.put.ensures c.evaluated-score.ensures c.settle.ensures; working = works s.prepared.0 c.evaluated-score.ensures }
+    let e = c.evaluated-score.ensures in
+    record { reached = step_reaches s.prepared.0 s.awaiting c.put.ensures e.assembled (rw e.choices at c.settle.ensures); working = works s.prepared.0 e.assembled }
