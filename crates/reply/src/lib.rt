@@ -19,7 +19,7 @@ const LINE: usize = 14;
 fn refused_line(refusal: Refusal) -> [u8; LINE]
     ensures { result ≡ refused_line (number refusal) }
 {
-    let mut line = *b"refused      0\n";
+    let mut line = *b"refused     0\n";
     columns::write_field(&mut line[7..], refusal.number());
     line
 }

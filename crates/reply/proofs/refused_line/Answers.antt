@@ -1,12 +1,13 @@
 -- The six columns replace the spaces and the 0 after the word, and the line feed stays.
 -- Assumes nothing.
 use Rattle.std.proofs.Common.{arith}
+use Rattle.refusals.specs.Numbers.{number}
 use Rattle.refusals.proofs.Numbers.{few}
 use Rattle.reply.proofs.Told.{told}
 use Rattle.reply.proofs.refused_line.Goals as goal
 
 pub write_field-requires : goal.write_field-requires
-write_field-requires c = (omega arith, omega (arith, few c.args.refusal))
+write_field-requires c = (omega arith, omega (arith, few c.args.refusal, c.number.ensures))
 
 pub returns : goal.returns
-returns c = told _ _ c.write_field.ensures
+returns c = rw (← c.number.ensures) (told _ _ c.write_field.ensures)
