@@ -5,10 +5,8 @@ ghost use Rattle.gene_tree.specs.Refusals.{bad_parent, bad_count, refusal12, ref
 ghost use Rattle.gene_tree.specs.inner.Work.{ChildCounts};
 
 use super::species::Species;
-use layout::lines;
-use layout::lines::{Lines, gene_parent, gene_species};
-use tables::column::{Column, child_counts};
-use text_lines::FIELDS;
+use layout::lines::{gene_parent, gene_species};
+use tables::column::Column;
 
 // 12: of gene g with the parent p.
 #[tactic(auto, unfolding(crate::specs::Refusals::bad_parent, finite::specs::Tests::same, finite::specs::Tests::under))]
@@ -38,29 +36,21 @@ fn bad_gene(g: usize, p: usize, k: u32) -> bool
 pub struct GeneLines<'a> {
     m: usize,
     species: Species<'a>,
-    child_counts: Column,
+    child_counts: &'a Column,
     ghost few: { m ≤ 127 },
-    ghost counted: { ChildCounts (genes_in species.n m species.lines.now) child_counts },
+    ghost counted: { ChildCounts (genes_in species.n m species.lines.now) child_counts.now },
 }
 
 impl<'a> GeneLines<'a> {
-    #[tactic(auto, using(crate::proofs::Filling::counts_noted), unfolding(finite::specs::Tables::zeros))]
-    pub fn new(n: usize, m: usize, lines: &'a Lines) -> GeneLines<'a>
-        requires { (n ≤ 127) × (m ≤ 127) }
-        ensures { (result.m ≡ m) × (result.species.n ≡ n) × (result.species.lines.now ≡ lines.now) }
+    pub fn new(m: usize, species: Species<'a>, child_counts: &'a Column) -> GeneLines<'a>
+        requires few { m ≤ 127 }
+        requires counted { ChildCounts (genes_in species.n m species.lines.now) child_counts.now }
+        ensures { (result.m ≡ m) × (result.species.n ≡ species.entry.n) × (result.species.lines.now ≡ species.entry.lines.now) }
     {
-        let mut counts = [0; 128];
-        child_counts(
-            m,
-            lines,
-            FIELDS * n + lines::GENE_PARENT,
-            FIELDS,
-            &mut counts,
-        );
         GeneLines {
             m,
-            species: Species::new(n, lines),
-            child_counts: counts,
+            species,
+            child_counts,
         }
     }
 

@@ -19,15 +19,26 @@ use layout::lines;
 use layout::lines::{Lines, gene_species};
 use refusals::Refusal;
 use species::Species;
+use tables::column::child_counts;
 use text_lines::FIELDS;
 
 // The first of the gene lines' refusals that applies, for any lines of n nodes and m genes.
-#[tactic(auto, using(finite::proofs::Refusals::verdict_laws), unfolding(crate::specs::Refusals::gene_refusals, crate::specs::Refusals::species_refusals))]
+#[tactic(auto, using(finite::proofs::Refusals::verdict_laws, crate::proofs::Filling::counts_noted), unfolding(finite::specs::Tables::zeros, crate::specs::Refusals::gene_refusals, crate::specs::Refusals::species_refusals))]
 pub fn verdict(n: usize, m: usize, lines: &Lines) -> Result<(), Refusal>
     requires { (n ≤ 127) × (m ≤ 127) }
     ensures { refused result ≡ verdict (gene_refusals (nodes_in n lines.now) (genes_in n m lines.now)) }
 {
-    let genes = GeneLines::new(n, m, lines);
+    let mut lowest = [0; 128];
+    species::note(n, lines, &mut lowest);
+    let species = Species {
+        n,
+        lines,
+        lowest: &lowest,
+    };
+    let mut counts = [0; 128];
+    let parents = FIELDS * n + lines::GENE_PARENT;
+    child_counts(m, lines, parents, FIELDS, &mut counts);
+    let genes = GeneLines::new(m, species, &counts);
     if genes.twelve() {
         return Err(Refusal::BadGeneTree);
     }
@@ -38,12 +49,18 @@ pub fn verdict(n: usize, m: usize, lines: &Lines) -> Result<(), Refusal>
 }
 
 // The node that bears the species of each gene: that at which a leaf gene sits.
-#[tactic(auto, using(tables::proofs::Columns::column_none, tables::proofs::Columns::column_turn, tables::proofs::Columns::column_done, crate::proofs::Reading::leaf_read))]
+#[tactic(auto, using(tables::proofs::Columns::column_none, tables::proofs::Columns::column_turn, tables::proofs::Columns::column_done, crate::proofs::Reading::leaf_read), unfolding(finite::specs::Tables::zeros))]
 fn fill_leaves(n: usize, m: usize, lines: &Lines, genes: &mut Genes)
     requires { (n ≤ 127) × (m ≤ 127) }
     ensures { genes.new ≡ column leaf_column m genes.old (leaf_of (nodes_in n lines.now) (genes_in n m lines.now)) }
 {
-    let species = Species::new(n, lines);
+    let mut lowest = [0; 128];
+    species::note(n, lines, &mut lowest);
+    let species = Species {
+        n,
+        lines,
+        lowest: &lowest,
+    };
     for g in 1..=m {
         let v = species.bearer(gene_species(lines, n, g));
         tables::put(genes, LEAF, g, v as u32);

@@ -1,5 +1,6 @@
 // The species of a network: which node bears each.
 ghost use Rattle.std.specs.Prelude.{◌≡◌, ◌≤◌};
+ghost use Rattle.finite.specs.Tables.{zeros};
 ghost use Rattle.tables.specs.Children.{next};
 ghost use Rattle.layout.specs.Lines.{nodes_in};
 ghost use Rattle.gene_tree.specs.Refusals.{bearer, bad_species};
@@ -18,28 +19,26 @@ fn sought(n: usize, lines: &Lines, s: usize) -> usize
     (1..=n).find(|v| node_species(lines, *v) == s).unwrap_or(0)
 }
 
-// The nodes 1 to n by their lines, with the lowest node of each number up to n as a species.
+// The lowest node of each number up to n as a species, where zeros stand.
+#[tactic(auto, using(crate::proofs::Filling::bearers_noted), unfolding(finite::specs::Tables::zeros))]
+pub fn note(n: usize, lines: &Lines, lowest: &mut Column)
+    requires { (n ≤ 127) × (lowest.old ≡ zeros) }
+    ensures { Bearers (nodes_in n lines.now) lowest.new }
+{
+    next_children(n, lines, lines::NODE_SPECIES, FIELDS, &[0; 128], lowest);
+}
+
+// The nodes 1 to n by their lines, with what `note` notes of them.
 #[derive(Clone, Copy)]
 pub struct Species<'a> {
     pub n: usize,
     pub lines: &'a Lines,
-    lowest: Column,
+    pub lowest: &'a Column,
     ghost few: { n ≤ 127 },
-    ghost noted: { Bearers (nodes_in n lines.now) lowest },
+    ghost noted: { Bearers (nodes_in n lines.now) lowest.now },
 }
 
 impl<'a> Species<'a> {
-    #[tactic(auto, using(crate::proofs::Filling::bearers_noted), unfolding(finite::specs::Tables::zeros))]
-    pub fn new(n: usize, lines: &'a Lines) -> Species<'a>
-        requires { n ≤ 127 }
-        ensures { (result.n ≡ n) × (result.lines.now ≡ lines.now) }
-    {
-        let zeros = [0; 128];
-        let mut lowest = zeros;
-        next_children(n, lines, lines::NODE_SPECIES, FIELDS, &zeros, &mut lowest);
-        Species { n, lines, lowest }
-    }
-
     // The node that bears species s, 0 where none does. No species is borne by no node, though other nodes than leaves have 0 there. Species are most
     // often numbered from 1, so the bearers of the numbers up to n are looked up, and only others are sought.
     #[tactic(auto, using(crate::proofs::Reading::bearer_noted, crate::proofs::Reading::bearer_sought, crate::proofs::Reading::bearer_low))]
