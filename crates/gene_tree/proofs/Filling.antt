@@ -4,84 +4,65 @@
 use mathlib.Core.Path.{◌≡◌, refl, sym, ◌∙◌, fun_ext}
 use mathlib.Core.Logic.{◌≢◌}
 use mathlib.Core.List.{List}
-use Prim.Native.Nat.{ℕ, ◌≤◌, ◌<◌}
+use Prim.Native.Nat.{ℕ, ◌≤◌}
 use native.Mathlib.Omega.{arith}
 use lib.ListN.{length}
 use Rattle.finite.specs.Range.{children}
-use Rattle.finite.specs.Tables.{within}
+use Rattle.finite.specs.Tables.{at, zeros, filled, within}
+use Rattle.finite.proofs.Tables.{filled_in, filled_zero, zeros_at, zeros_long}
 use Rattle.finite.proofs.Cases.{by_eq}
 use Rattle.finite.proofs.Tests.{not_same}
 use Rattle.finite.proofs.Count.{children_same}
 use Rattle.tables.specs.Columns.{entry, column, blank, Clear}
 use Rattle.tables.specs.Children.{next}
-use Rattle.tables.proofs.Columns.{column_long, column_in, column_keeps, column_none_at, column_clear, column_same, column_within, blank_clear}
+use Rattle.tables.proofs.Columns.{column_long, column_in, column_keeps, column_same, column_within, blank_is, still_clear}
 use Rattle.tables.proofs.Nexts.{next_same}
-use Rattle.topology.specs.Lines.{NodeLines, GeneLines}
+use Rattle.topology.specs.Lines.{GeneLines}
 use Rattle.layout.specs.Lines.{node_species, gene_parent, nodes_in, genes_in}
 use Rattle.layout.specs.inner.Genes.{left_column, right_column, leaf_column, parent_column, gene_tree}
 use Rattle.layout.proofs.Numbered.{species_in, gene_parent_in}
 use Rattle.gene_tree.specs.Refusals.{child_count, bearer}
 use Rattle.gene_tree.specs.Genes.{left_of, right_of, leaf_of, gene_tree_of}
-use Rattle.gene_tree.specs.inner.Work.{child_count_column, bearer_column, ChildCounts, Bearers}
+use Rattle.gene_tree.specs.inner.Work.{ChildCounts, Bearers}
 use Rattle.gene_tree.proofs.Refusals.{bearer_zero}
 use Rattle.gene_tree.proofs.Reading.{count_is}
-
-pub clear_start : (k : ℕ) (t : List ℕ) → k < 4 → t ≡ blank → Clear k t
-clear_start k t l b = rw b (blank_clear k l)
-
-pub clear_kept : (m j k : ℕ) (t s : List ℕ) (f : ℕ → ℕ) → m ≤ 127 → s ≡ column k m t f → j ≢ k → Clear j t → Clear j s
-clear_kept m j k t s f few e d c = rw e (column_clear k t f m j (omega arith) d c)
 
 entries_kept : (m j k : ℕ) (t s : List ℕ) (f : ℕ → ℕ) → m ≤ 127 → s ≡ column k m t f → j ≢ k → entry s j ≡ entry t j
 entries_kept m j k t s f few e d = fun_ext (λ v. rw e (column_keeps k t f m v j (omega arith) d))
 
 -- the bearers of the numbers up to n
-module _ (n : ℕ) (l start work : List ℕ) (few : n ≤ 127) (b : start ≡ blank) (e : work ≡ column bearer_column n start (λ v. next n (node_species l) (entry start child_count_column v) v)) where
-  bearer_is : (s : ℕ) → s ≢ 0 → next n (node_species l) (entry start child_count_column s) s ≡ bearer (nodes_in n l) s
-  unfolding bearer nodes_in
-  bearer_is s d = rw (not_same d, (clear_start child_count_column start (omega arith) b).none s) (sym (next_same n (nodes_in n l).species (node_species l) 0 s (species_in n l)))
+pub bearers_noted : (n : ℕ) (l c : List ℕ) → n ≤ 127 → c ≡ filled n zeros (λ v. next n (node_species l) (at zeros v) v) → Bearers (nodes_in n l) c
+unfolding bearer nodes_in
+bearers_noted n l c few e = record {
+  bearers = λ s u. rw e (by_eq s 0
+      (λ z. rw z (filled_zero n zeros _ ∙ zeros_at 0 ∙ sym (bearer_zero (nodes_in n l) 0 refl)))
+      (λ d. filled_in n zeros _ s (omega arith) u (omega (arith, zeros_long))
+      ∙ rw (not_same d, zeros_at s) (sym (next_same n (nodes_in n l).species (node_species l) 0 s (species_in n l)))));
+}
 
-  pub bearers_noted : Bearers (nodes_in n l) work
-  unfolding nodes_in
-  bearers_noted = record {
-    bearers = λ s u. rw e (by_eq s 0
-        (λ z. rw z (column_none_at bearer_column start _ n (omega arith) (clear_start bearer_column start (omega arith) b) ∙ sym (bearer_zero (nodes_in n l) 0 refl)))
-        (λ d. column_in bearer_column start _ n s (omega arith) (omega arith) u (omega (arith, (clear_start bearer_column start (omega arith) b).long)) ∙ bearer_is s d));
-  }
-
-  pub counts_clear : Clear child_count_column work
-  counts_clear = clear_kept n child_count_column bearer_column start work _ few e (λ (z : 0 ≡ 1). omega arith) (clear_start child_count_column start (omega arith) b)
-
--- the numbers of children beside them
-module _ (n m : ℕ) (l start work : List ℕ) (few : m ≤ 127) (c : Clear child_count_column start) (e : work ≡ column child_count_column m start (children m (gene_parent l n))) where
-  pub counts_noted : ChildCounts (genes_in n m l) work
-  unfolding child_count
-  counts_noted = record {
-    counts = λ g k. rw e (column_in child_count_column start _ m g (omega arith) k.low (omega (arith, k.high, count_is n m l)) (omega (arith, c.long))
-        ∙ sym (rw (count_is n m l) (children_same m (genes_in n m l).parent (gene_parent l n) g (gene_parent_in n m l))));
-  }
-
-  pub bearers_kept : (L : NodeLines) → Bearers L start → Bearers L work
-  bearers_kept L h = record { bearers = λ s u. rw e (column_keeps child_count_column start _ m s bearer_column (omega arith) (λ (z : 1 ≡ 0). omega arith) ∙ h.bearers s u) }
+-- the numbers of children
+pub counts_noted : (n m : ℕ) (l c : List ℕ) → m ≤ 127 → c ≡ filled m zeros (children m (gene_parent l n)) → ChildCounts (genes_in n m l) c
+unfolding child_count
+counts_noted n m l c few e = record {
+  counts = λ g k. rw e (filled_in m zeros _ g k.low (omega (arith, k.high, count_is n m l)) (omega (arith, zeros_long))
+      ∙ sym (rw (count_is n m l) (children_same m (genes_in n m l).parent (gene_parent l n) g (gene_parent_in n m l))));
+}
 
 -- four columns of a table of zeros, filled one after the other
 module _ (m : ℕ) (t0 t1 t2 t3 t4 : List ℕ) (a b c d : ℕ → ℕ) (few : m ≤ 127) (e0 : t0 ≡ blank) (e1 : t1 ≡ column left_column m t0 a)
     (e2 : t2 ≡ column right_column m t1 b) (e3 : t3 ≡ column leaf_column m t2 c) (e4 : t4 ≡ column parent_column m t3 d) where
   right_clear : Clear right_column t1
-  right_clear = clear_kept m right_column left_column t0 t1 a few e1 (λ (z : 1 ≡ 0). omega arith) (clear_start right_column t0 (omega arith) e0)
+  right_clear = still_clear right_column left_column m t0 t1 a few (λ (z : 1 ≡ 0). omega arith) e1 (blank_is right_column t0 (omega arith) e0)
 
   leaf_clear : Clear leaf_column t2
-  leaf_clear = clear_kept m leaf_column right_column t1 t2 b few e2 (λ (z : 2 ≡ 1). omega arith)
-      (clear_kept m leaf_column left_column t0 t1 a few e1 (λ (z : 2 ≡ 0). omega arith) (clear_start leaf_column t0 (omega arith) e0))
+  leaf_clear = still_clear leaf_column right_column m t1 t2 b few (λ (z : 2 ≡ 1). omega arith) e2 (still_clear leaf_column left_column m t0 t1 a few (λ (z : 2 ≡ 0). omega arith) e1 (blank_is leaf_column t0 (omega arith) e0))
 
   parent_clear : Clear parent_column t3
-  parent_clear = clear_kept m parent_column leaf_column t2 t3 c few e3 (λ (z : 3 ≡ 2). omega arith)
-      (clear_kept m parent_column right_column t1 t2 b few e2 (λ (z : 3 ≡ 1). omega arith)
-      (clear_kept m parent_column left_column t0 t1 a few e1 (λ (z : 3 ≡ 0). omega arith) (clear_start parent_column t0 (omega arith) e0)))
+  parent_clear = still_clear parent_column leaf_column m t2 t3 c few (λ (z : 3 ≡ 2). omega arith) e3 (still_clear parent_column right_column m t1 t2 b few (λ (z : 3 ≡ 1). omega arith) e2 (still_clear parent_column left_column m t0 t1 a few (λ (z : 3 ≡ 0). omega arith) e1 (blank_is parent_column t0 (omega arith) e0)))
 
   left_filled : entry t4 left_column ≡ within m a
   left_filled = entries_kept m left_column parent_column t3 t4 d few e4 (λ (z : 0 ≡ 3). omega arith) ∙ entries_kept m left_column leaf_column t2 t3 c few e3 (λ (z : 0 ≡ 2). omega arith)
-      ∙ entries_kept m left_column right_column t1 t2 b few e2 (λ (z : 0 ≡ 1). omega arith) ∙ rw e1 (column_within left_column m t0 a (omega arith) (omega arith) (clear_start left_column t0 (omega arith) e0))
+      ∙ entries_kept m left_column right_column t1 t2 b few e2 (λ (z : 0 ≡ 1). omega arith) ∙ rw e1 (column_within left_column m t0 a (omega arith) (omega arith) (blank_is left_column t0 (omega arith) e0))
 
   right_filled : entry t4 right_column ≡ within m b
   right_filled = entries_kept m right_column parent_column t3 t4 d few e4 (λ (z : 1 ≡ 3). omega arith) ∙ entries_kept m right_column leaf_column t2 t3 c few e3 (λ (z : 1 ≡ 2). omega arith)
@@ -113,7 +94,7 @@ module _ (n m : ℕ) (l t0 t1 t2 t3 t4 : List ℕ) (few : m ≤ 127) (e0 : t0 �
 
   left_is : (v : ℕ) → next m (gene_parent l n) (entry t0 parent_column v) v ≡ left_of K v
   unfolding left_of genes_in
-  left_is v = rw ((clear_start parent_column t0 (omega arith) e0).none v) (next_is 0 v)
+  left_is v = rw ((blank_is parent_column t0 (omega arith) e0).none v) (next_is 0 v)
 
   left_column_lem : t1 ≡ column left_column m t0 (left_of K)
   left_column_lem = e1 ∙ column_same left_column m t0 _ (left_of K) (λ v _ _. left_is v)
@@ -121,7 +102,7 @@ module _ (n m : ℕ) (l t0 t1 t2 t3 t4 : List ℕ) (few : m ≤ 127) (e0 : t0 �
   right_is : (v : ℕ) → 1 ≤ v → v ≤ m → next m (gene_parent l n) (entry t1 left_column v) v ≡ right_of K v
   unfolding right_of genes_in
   right_is v lv uv =
-      let q : entry t1 left_column v ≡ left_of K v = rw left_column_lem (column_in left_column t0 (left_of K) m v (omega arith) lv uv (omega (arith, (clear_start left_column t0 (omega arith) e0).long))) in
+      let q : entry t1 left_column v ≡ left_of K v = rw left_column_lem (column_in left_column t0 (left_of K) m v (omega arith) lv uv (omega (arith, (blank_is left_column t0 (omega arith) e0).long))) in
       rw q (next_is (left_of K v) v)
 
   right_column_lem : t2 ≡ column right_column m t1 (right_of K)

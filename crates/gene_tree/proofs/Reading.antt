@@ -1,128 +1,86 @@
--- What the loops read of the lines and of the work table is what the definitions ask for, one law a turn: at a number of a gene or a node the lines by
--- number are read where they stand.
+-- What is read of the lines and of the columns is what the definitions ask for: at a number of a gene or a node the lines by number are read where they
+-- stand.
 -- Assumes nothing.
-use mathlib.Core.Path.{◌≡◌, refl, sym, ◌∙◌}
-use mathlib.Core.Logic.{◌≢◌}
-use mathlib.Core.Bool.{Bool, true, false, ◌||◌}
+use mathlib.Core.Path.{◌≡◌, refl, sym, ap, ◌∙◌}
+use mathlib.Core.Bool.{cond, ◌||◌}
+use Rattle.std.specs.Prelude.{Option, Some, None, unwrap_or}
 use mathlib.Core.List.{List}
 use Prim.Native.Nat.{ℕ, ◌+◌, ◌*◌, ◌≤◌, ◌<◌}
 use lib.ListN.{get_or}
 use native.Mathlib.Omega.{arith}
+use Rattle.finite.specs.Tests.{same}
 use Rattle.finite.specs.Range.{any, first}
+use Rattle.finite.specs.Tables.{at}
 use Rattle.finite.proofs.Cases.{by_eq}
 use Rattle.finite.proofs.Tests.{is_same, not_same, is_under}
-use Rattle.finite.proofs.Every.{first_start, first_turn, first_stop, first_done, some_start, some_turn, some_stop, some_done}
+use Rattle.finite.proofs.Every.{first_same, some_same}
 use Rattle.text_lines.specs.Lines.{field_count}
-use Rattle.tables.specs.Columns.{entry, spaced}
+use Rattle.tables.specs.Columns.{spaced}
 use Rattle.tables.specs.Children.{is_next, next}
 use Rattle.layout.specs.Lines.{node_species, gene_parent, gene_species, nodes_in, genes_in}
 use Rattle.layout.proofs.Numbered.{species_in, gene_parent_in, gene_species_in}
 use Rattle.topology.specs.Lines.{Gene}
 use Rattle.gene_tree.specs.Refusals.{bad_parent, bad_count, bad_gene_at, refusal12, bearer, bad_species, bad_species_at, refusal13}
 use Rattle.gene_tree.specs.Genes.{leaf_of}
-use Rattle.gene_tree.specs.inner.Work.{child_count_column, bearer_column, ChildCounts, Bearers}
+use Rattle.gene_tree.specs.inner.Work.{ChildCounts, Bearers}
 use Rattle.gene_tree.proofs.Refusals.{bearer_in}
 
--- the search for the lowest node of species s: y is the species of node v + 1
-module _ (n : ℕ) (l : List ℕ) (s v y : ℕ) (lv : v < n) (h : first v (is_next (nodes_in n l).species 0 s) ≡ 0) (e : y ≡ node_species l (v + 1)) where
-  species_is : (nodes_in n l).species (v + 1) ≡ y
-  species_is = species_in n l (v + 1) (omega arith) (omega arith) ∙ sym e
+-- the lowest node of species s, where the search for one comes to o
+found : (r : ℕ) → unwrap_or (cond (same r 0) None (Some r)) 0 ≡ r
+found r = by_eq r 0 (λ z. rw (is_same z) (sym z)) (λ d. rw (not_same d))
 
-  found : y ≡ s → is_next (nodes_in n l).species 0 s (v + 1) ≡ true
-  unfolding is_next
-  found q = rw (is_under {m = 0} {n = v + 1} (omega arith), is_same (species_is ∙ q))
+pub sought_read : (n : ℕ) (l : List ℕ) (s : ℕ) (o : Option ℕ)
+    → o ≡ cond (same (first n (λ v. same (node_species l v) s)) 0) None (Some (first n (λ v. same (node_species l v) s))) → unwrap_or o 0 ≡ next n (nodes_in n l).species 0 s
+unfolding next is_next
+sought_read n l s o e = ap (λ (q : Option ℕ). unwrap_or q 0) e ∙ found (first n (λ v. same (node_species l v) s))
+    ∙ first_same n _ _ (λ v a b. rw (species_in n l v a b, is_under {m = 0} {n = v} (omega arith)))
 
-  passed : y ≢ s → is_next (nodes_in n l).species 0 s (v + 1) ≡ false
-  unfolding is_next
-  passed d = rw (is_under {m = 0} {n = v + 1} (omega arith), not_same (λ (q : (nodes_in n l).species (v + 1) ≡ s). d (sym species_is ∙ q)))
-
-  pub sought_turn : y ≢ s → first (v + 1) (is_next (nodes_in n l).species 0 s) ≡ 0
-  sought_turn d = first_turn (is_next (nodes_in n l).species 0 s) v false h (sym (passed d)) refl
-
-  pub sought_stop : y ≡ s → v + 1 ≡ next n (nodes_in n l).species 0 s
-  unfolding next
-  sought_stop q = first_stop (is_next (nodes_in n l).species 0 s) n v true lv h (sym (found q)) refl
-
-pub sought_done : (n : ℕ) (l : List ℕ) (s v : ℕ) → v ≤ n → n ≤ v → first v (is_next (nodes_in n l).species 0 s) ≡ 0 → 0 ≡ next n (nodes_in n l).species 0 s
-unfolding next
-sought_done n l s v a b h = first_done (is_next (nodes_in n l).species 0 s) n v a b h
-
-pub ruleset sought_loop = (first_start, sought_turn, sought_stop, sought_done)
-
--- a species' bearer, from the table of the lowest node for each number up to n, and sought; it is a node, or 0
-module _ (n : ℕ) (l : List ℕ) (s r : ℕ) where
-  pub bearer_found : (work : List ℕ) → Bearers (nodes_in n l) work → s ≤ n → r ≡ entry work bearer_column s → r ≡ bearer (nodes_in n l) s
+-- a species' bearer, looked up for each number up to n, and sought; it is a node, or 0
+module _ (n : ℕ) (l : List ℕ) (s : ℕ) where
+  pub bearer_noted : (c : List ℕ) → Bearers (nodes_in n l) c → s ≤ n → at c s ≡ bearer (nodes_in n l) s
   unfolding nodes_in
-  bearer_found work b u e = e ∙ b.bearers s u
+  bearer_noted c b u = b.bearers s u
 
-  pub bearer_sought : n < s → r ≡ next n (nodes_in n l).species 0 s → r ≡ bearer (nodes_in n l) s
+  pub bearer_sought : n < s → next n (nodes_in n l).species 0 s ≡ bearer (nodes_in n l) s
   unfolding bearer nodes_in
-  bearer_sought u e = rw (not_same {m = s} {n = 0} (λ z. omega arith)) e
+  bearer_sought u = rw (not_same {m = s} {n = 0} (λ z. omega arith))
 
-  pub bearer_low : r ≡ bearer (nodes_in n l) s → r ≤ n
+  pub bearer_low : bearer (nodes_in n l) s ≤ n
   unfolding nodes_in
-  bearer_low e = by_eq r 0 (λ z. omega arith) (λ d. omega (arith, e, (bearer_in (nodes_in n l) s (λ z. d (e ∙ z))).0))
+  bearer_low = by_eq (bearer (nodes_in n l) s) 0 (λ z. omega arith) (λ d. (bearer_in (nodes_in n l) s d).0)
 
--- the loops over the genes
+-- the genes
 module _ (n m : ℕ) (l : List ℕ) where
   pub count_is : (genes_in n m l).count ≡ m
   unfolding genes_in
   count_is = refl
 
-  gene_is : (g : ℕ) → g < m → Gene (genes_in n m l) (g + 1)
-  gene_is g u = record { low = omega arith; high = omega (arith, count_is) }
+  module _ (g : ℕ) (low : 1 ≤ g) (high : g ≤ m) where
+    gene_is : Gene (genes_in n m l) g
+    gene_is = record { low = low; high = rw count_is high }
 
-  parent_read : (g p : ℕ) → g < m → p ≡ gene_parent l n (g + 1) → p ≡ (genes_in n m l).parent (g + 1)
-  parent_read g p u e = e ∙ sym (gene_parent_in n m l (g + 1) (omega arith) (omega arith))
+    pub parent_copied : get_or l (field_count * n + 1 + field_count * g) 0 ≡ (genes_in n m l).parent g
+    unfolding spaced
+    parent_copied = sym (gene_parent_in n m l g low high)
 
-  pub parent_copied : (g p : ℕ) → g < m → p ≡ get_or l (field_count * n + 1 + field_count * (g + 1)) 0 → p ≡ (genes_in n m l).parent (g + 1)
-  unfolding spaced
-  parent_copied g p u e = parent_read g p u e
+    -- the leaf of gene g
+    pub leaf_read : bearer (nodes_in n l) (gene_species l n g) ≡ leaf_of (nodes_in n l) (genes_in n m l) g
+    unfolding leaf_of
+    leaf_read = rw (gene_species_in n m l g low high)
 
-  species_read : (g s : ℕ) → g < m → s ≡ gene_species l n (g + 1) → s ≡ (genes_in n m l).species (g + 1)
-  species_read g s u e = e ∙ sym (gene_species_in n m l (g + 1) (omega arith) (omega arith))
-
-  -- 12: gene g + 1 has the parent p and k children
-  module _ (g p k : ℕ) (work : List ℕ) (r : Bool) (u : g < m) (c : ChildCounts (genes_in n m l) work) (ep : p ≡ gene_parent l n (g + 1))
-      (ek : k ≡ entry work child_count_column (g + 1)) (er : r ≡ (bad_parent (g + 1) p || bad_count k)) where
-    gene_read : r ≡ bad_gene_at (genes_in n m l) (g + 1)
-    unfolding bad_gene_at
-    gene_read = rw (← parent_read g p u ep, ← (ek ∙ c.counts (g + 1) (gene_is g u))) er
-
-    pub twelve_turn : any g (bad_gene_at (genes_in n m l)) ≡ false → r ≡ false → any (g + 1) (bad_gene_at (genes_in n m l)) ≡ false
-    twelve_turn h t = some_turn (bad_gene_at (genes_in n m l)) g r h gene_read t
-
-    pub twelve_stop : r ≡ true → true ≡ refusal12 (genes_in n m l)
-    unfolding refusal12 genes_in
-    twelve_stop t = some_stop (bad_gene_at (genes_in n m l)) m g r u gene_read t
-
-  pub twelve_done : (g : ℕ) → g ≤ m → m ≤ g → any g (bad_gene_at (genes_in n m l)) ≡ false → false ≡ refusal12 (genes_in n m l)
+  all_12 : any m (bad_gene_at (genes_in n m l)) ≡ refusal12 (genes_in n m l)
   unfolding refusal12 genes_in
-  twelve_done g a b h = some_done (bad_gene_at (genes_in n m l)) m g a b h
+  all_12 = refl
 
-  -- 13: gene g + 1 has k children and the species s
-  module _ (g k s : ℕ) (work : List ℕ) (r : Bool) (u : g < m) (c : ChildCounts (genes_in n m l) work) (ek : k ≡ entry work child_count_column (g + 1))
-      (es : s ≡ gene_species l n (g + 1)) (er : r ≡ bad_species (nodes_in n l) k s) where
-    species_tested : r ≡ bad_species_at (nodes_in n l) (genes_in n m l) (g + 1)
-    unfolding bad_species_at
-    species_tested = rw (← species_read g s u es, ← (ek ∙ c.counts (g + 1) (gene_is g u))) er
-
-    pub thirteen_turn : any g (bad_species_at (nodes_in n l) (genes_in n m l)) ≡ false → r ≡ false → any (g + 1) (bad_species_at (nodes_in n l) (genes_in n m l)) ≡ false
-    thirteen_turn h t = some_turn (bad_species_at (nodes_in n l) (genes_in n m l)) g r h species_tested t
-
-    pub thirteen_stop : r ≡ true → true ≡ refusal13 (nodes_in n l) (genes_in n m l)
-    unfolding refusal13 genes_in
-    thirteen_stop t = some_stop (bad_species_at (nodes_in n l) (genes_in n m l)) m g r u species_tested t
-
-  pub thirteen_done : (g : ℕ) → g ≤ m → m ≤ g → any g (bad_species_at (nodes_in n l) (genes_in n m l)) ≡ false → false ≡ refusal13 (nodes_in n l) (genes_in n m l)
+  all_13 : any m (bad_species_at (nodes_in n l) (genes_in n m l)) ≡ refusal13 (nodes_in n l) (genes_in n m l)
   unfolding refusal13 genes_in
-  thirteen_done g a b h = some_done (bad_species_at (nodes_in n l) (genes_in n m l)) m g a b h
+  all_13 = refl
 
-  -- the leaf of gene g + 1, which has the species s
-  pub leaf_read : (g s v : ℕ) → g < m → s ≡ gene_species l n (g + 1) → v ≡ bearer (nodes_in n l) s → v ≡ leaf_of (nodes_in n l) (genes_in n m l) (g + 1)
-  unfolding leaf_of
-  leaf_read g s v u es e = rw (← species_read g s u es) e
+  module _ (c : List ℕ) (counted : ChildCounts (genes_in n m l) c) where
+    pub twelve_read : any m (λ g. bad_parent g (gene_parent l n g) || bad_count (at c g)) ≡ refusal12 (genes_in n m l)
+    unfolding bad_gene_at
+    twelve_read = some_same m _ (bad_gene_at (genes_in n m l)) (λ g a b. rw (gene_parent_in n m l g a b, counted.counts g (gene_is g a b))) ∙ all_12
 
-pub ruleset twelve_loop = (some_start, twelve_turn, twelve_stop, twelve_done)
-
-pub ruleset thirteen_loop = (some_start, thirteen_turn, thirteen_stop, thirteen_done)
+    pub thirteen_read : any m (λ g. bad_species (nodes_in n l) (at c g) (gene_species l n g)) ≡ refusal13 (nodes_in n l) (genes_in n m l)
+    unfolding bad_species_at
+    thirteen_read = some_same m _ (bad_species_at (nodes_in n l) (genes_in n m l)) (λ g a b. rw (gene_species_in n m l g a b, counted.counts g (gene_is g a b))) ∙ all_13

@@ -20,7 +20,7 @@ use Rattle.finite.proofs.Refusals.{verdict_none}
 use Rattle.topology.specs.Networks.{Node, Sound}
 use Rattle.topology.specs.Lines.{NodeLines, rank_of, network}
 use Rattle.topology.proofs.Lines.{rank_none, rank_is, rank_some, node_of, node_high}
-use Rattle.layout.specs.Lines.{principal, secondary, nodes_in}
+use Rattle.layout.specs.Lines.{nodes_in}
 use Rattle.shapes.specs.Refusals.{refusal8, IsLeaf, Shape, reticulation, inner, leaf, shapeless_at, refusal9, Refusal9, leaf_without, other_with_lem, two_alike, child_at, reticulation_if_child, only_reticulations_at, refusal10, Child, by_principal, by_secondary, after_eight, shape_refusals}
 use Rattle.shapes.proofs.Readings.{shape_at, reading_9, child_is, is_child}
 use Rattle.network.specs.Refusals.{refusal6, OneRoot, Refusal6, principal_above, secondary_above, root_secondary, refusal7, principal_not_below, secondary_not_equal, after_six, network_refusals}

@@ -1,13 +1,12 @@
 -- What the code reads of the lines is what the refusals say of them: at a node the array is read, and a parent whose stamp is asked is a node. Each law
 -- has its premises as a function's calls give them.
 -- Assumes nothing.
-use mathlib.Core.Path.{◌≡◌, sym, ◌∙◌}
+use mathlib.Core.Path.{◌≡◌, sym}
 use mathlib.Core.Logic.{◌≢◌}
-use mathlib.Core.Bool.{Bool, false, not}
+use mathlib.Core.Bool.{false}
 use mathlib.Core.List.{List}
 use Prim.Native.Nat.{ℕ, ◌≤◌}
 use native.Mathlib.Omega.{arith}
-use Rattle.finite.specs.Tests.{same}
 use Rattle.finite.specs.Range.{any, children}
 use Rattle.finite.proofs.Cases.{by_eq}
 use Rattle.finite.proofs.Tests.{is_same}

@@ -4,7 +4,7 @@ ghost use Rattle.finite.specs.Range.{children};
 ghost use Rattle.finite.specs.Tables.{zeros, filled};
 ghost use Rattle.layout.specs.Lines.{nodes_in, principal, secondary};
 ghost use Rattle.shapes.specs.inner.ShortForms.{plain_parent, plain_parent_at};
-ghost use Rattle.shapes.specs.inner.Counts.{Counted};
+ghost use Rattle.shapes.specs.inner.Counts.{Zeros, Counted};
 
 use layout::lines;
 use layout::lines::{Lines, principal, secondary};
@@ -45,21 +45,15 @@ fn plain_counts(n: usize, lines: &Lines, plains: &mut Column)
     plains[0] = 0;
 }
 
-// All the counts.
-#[tactic(auto, using(crate::proofs::AsRead::counts_filled), unfolding(finite::specs::Tables::zeros))]
-pub fn count(n: usize, lines: &Lines) -> Counts
-    requires { n ≤ 127 }
-    ensures { Counted (nodes_in n lines.now) result }
+// All the counts, where zeros stand.
+#[tactic(auto, using(crate::proofs::AsRead::counts_filled))]
+pub fn fill(n: usize, lines: &Lines, counts: &mut Counts)
+    requires limits { n ≤ 127 }
+    requires zeros { Zeros counts.old }
+    ensures { Counted (nodes_in n lines.now) counts.new }
 {
-    let mut counts = Counts {
-        principals: [0; 128],
-        secondaries: [0; 128],
-        plains: [0; 128],
-        bearers: [0; 128],
-    };
     child_counts(n, lines, lines::PRINCIPAL, FIELDS, &mut counts.principals);
     child_counts(n, lines, lines::SECONDARY, FIELDS, &mut counts.secondaries);
     child_counts(n, lines, lines::NODE_SPECIES, FIELDS, &mut counts.bearers);
     plain_counts(n, lines, &mut counts.plains);
-    counts
 }

@@ -6,7 +6,6 @@ ghost use Rattle.shapes.specs.Refusals.{reticulation_with, inner_with, leaf_with
 ghost use Rattle.shapes.specs.inner.ShortForms.{wrong_species_at, only_reticulations};
 ghost use Rattle.shapes.specs.inner.Counts.{Counted};
 
-use super::counts;
 use super::counts::Counts;
 use layout::lines;
 use layout::lines::{Lines, node_species, principal, secondary};
@@ -56,25 +55,14 @@ fn only_reticulations(a: u32, b: u32, k: u32) -> bool
 // The nodes 1 to n by their lines, with what is counted of them once.
 #[derive(Clone, Copy)]
 pub struct Shapes<'a> {
-    n: usize,
-    lines: &'a Lines,
-    counts: Counts,
+    pub n: usize,
+    pub lines: &'a Lines,
+    pub counts: &'a Counts,
     ghost few: { n ≤ 127 },
-    ghost counted: { Counted (nodes_in n lines.now) counts },
+    ghost counted: { Counted (nodes_in n lines.now) counts.now },
 }
 
 impl<'a> Shapes<'a> {
-    pub fn new(n: usize, lines: &'a Lines) -> Shapes<'a>
-        requires { n ≤ 127 }
-        ensures { (result.n ≡ n) × (result.lines.now ≡ lines.now) }
-    {
-        Shapes {
-            n,
-            lines,
-            counts: counts::count(n, lines),
-        }
-    }
-
     // 8.
     pub fn eight(&self) -> bool
         ensures { result ≡ refusal8 (nodes_in self.now.n self.now.lines.now) }

@@ -1,22 +1,17 @@
 -- `gene_tree::fill` meets its contract. Each pass fills one column of what was a table of zeros.
 -- Assumes nothing.
-use mathlib.Core.Path.{refl}
 use native.Mathlib.Omega.{arith}
-use Rattle.tables.specs.Columns.{blank}
-use Rattle.gene_tree.proofs.Filling.{clear_start, clear_kept, tree_is, tree_long}
+use Rattle.tables.proofs.Columns.{blank_is, still_clear}
+use Rattle.gene_tree.proofs.Filling.{tree_is, tree_long}
 use borrow.Author.Rules.{rules}
 use Rattle.gene_tree.proofs.fill.Goals as goal
 
-pub note_bearers-requires : goal.note_bearers-requires
-unfolding blank
-note_bearers-requires c = (search rules, refl)
-
 pub next_children-requires : goal.next_children-requires
-next_children-requires c = (search rules, search rules, search rules, search rules, λ z. omega arith, clear_start _ _ (omega arith) c.requires.2)
+next_children-requires c = (search rules, search rules, search rules, search rules, λ z. omega arith, blank_is _ _ (omega arith) c.requires.2)
 
 pub next_children-requires-2 : goal.next_children-requires-2
 next_children-requires-2 c = let s = c.requires in
-    (search rules, search rules, search rules, search rules, λ z. omega arith, clear_kept _ _ _ _ _ _ s.1 c.next_children.ensures (λ z. omega arith) (clear_start _ _ (omega arith) s.2))
+    (search rules, search rules, search rules, search rules, λ z. omega arith, still_clear _ _ _ _ _ _ s.1 (λ z. omega arith) c.next_children.ensures (blank_is _ _ (omega arith) s.2))
 
 pub returns : goal.returns
 returns c = let s = c.requires in

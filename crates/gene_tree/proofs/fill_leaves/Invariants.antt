@@ -1,6 +1,6 @@
 -- `gene_tree::fill_leaves` meets its contract. The invariant: the rows passed are filled.
 -- Assumes nothing.
-use Prim.Native.Nat.{◌-◌, ◌≤◌}
+use Prim.Native.Nat.{◌+◌, ◌-◌, ◌≤◌}
 use mathlib.Core.Path.{◌≡◌}
 use Rattle.tables.specs.Columns.{column}
 use Rattle.layout.specs.Lines.{nodes_in, genes_in}
@@ -9,7 +9,4 @@ use Rattle.gene_tree.specs.Genes.{leaf_of}
 use Rattle.gene_tree.proofs.fill_leaves.Given as goal
 
 abbrev pub invariant-loop-g : goal.invariant-loop-g
-invariant-loop-g l = (l.g ≤ l.m) × (l.genes ≡ column leaf_column l.g l.initial.genes (leaf_of (nodes_in l.n l.lines) (genes_in l.n l.m l.lines)))
-
-abbrev pub decreases-loop-g : goal.decreases-loop-g
-decreases-loop-g l = l.m - l.g
+invariant-loop-g l = (l.g ≤ l.m + 1) × (l.genes ≡ column leaf_column (l.g - 1) l.initial.genes (leaf_of (nodes_in l.n l.lines) (genes_in l.n l.m l.lines)))
