@@ -49,31 +49,32 @@ module _ {N : Network} {τ : Switching} (ok : Sound N) where
   pub turned_end : {t : List ℕ} (v : ℕ) → N.size ≤ v → TurnedTo N τ v t → Held N τ t
   turned_end v u T = held_agree (λ r d. T.done r d (omega (arith, reticulation_node N ok r d))) T.held
 
-  module _ {t : List ℕ} (v : ℕ) (T : TurnedTo N τ v t) where
-    pub turned_skip : N.secondary (v + 1) ≡ 0 → TurnedTo N τ (v + 1) t
+  -- the turn at r of a loop over 1..=n
+  module _ {t : List ℕ} (r : ℕ) (low : 1 ≤ r) (T : TurnedTo N τ (r - 1) t) where
+    pub turned_skip : N.secondary r ≡ 0 → TurnedTo N τ r t
     turned_skip e = record {
       switching = T.switching;
       held = T.held;
-      done = λ r d u. by_eq r (v + 1) (λ q. absurd (d (rw q e))) (λ q. T.done r d (omega arith));
+      done = λ q d u. by_eq q r (λ i. absurd (d (rw i e))) (λ i. T.done q d (omega arith));
     }
 
-    pub turned_next : {s : List ℕ} (b : ℕ) → Turns N (v + 1) b t s → same b 1 ≡ τ (v + 1) → TurnedTo N τ (v + 1) s
+    pub turned_next : {s : List ℕ} (b : ℕ) → Turns N r b t s → same b 1 ≡ τ r → TurnedTo N τ r s
     turned_next b S e = record {
-      switching = turned T.switching (v + 1) b;
+      switching = turned T.switching r b;
       held = S.holds T.switching T.held;
-      done = λ r d u. by_eq r (v + 1) (λ q. rw q (turned_here T.switching (v + 1) b ∙ e)) (λ q. turned_other T.switching (v + 1) b r q ∙ T.done r d (omega arith));
+      done = λ q d u. by_eq q r (λ i. rw i (turned_here T.switching r b ∙ e)) (λ i. turned_other T.switching r b q i ∙ T.done q d (omega arith));
     }
 
 -- as the code reads it: the lines l hold the network, and the parts p the top c of r's component, how many reticulations it has, and r's index there
-module _ {n : ℕ} (l : List ℕ) {v x : ℕ} (u : v < n) (e : x ≡ secondary l (v + 1)) where
-  read : (network (nodes_in n l)).secondary (v + 1) ≡ x
+module _ {n : ℕ} (l : List ℕ) {r x : ℕ} (low : 1 ≤ r) (high : r ≤ n) (e : x ≡ secondary l r) where
+  read : (network (nodes_in n l)).secondary r ≡ x
   unfolding network
-  read = secondary_in n l (v + 1) (omega arith) (omega arith) ∙ sym e
+  read = secondary_in n l r low high ∙ sym e
 
-  pub read_plain : x ≡ 0 → (network (nodes_in n l)).secondary (v + 1) ≡ 0
+  pub read_plain : x ≡ 0 → (network (nodes_in n l)).secondary r ≡ 0
   read_plain z = read ∙ z
 
-  pub read_reticulation : x ≢ 0 → Reticulation (network (nodes_in n l)) (v + 1)
+  pub read_reticulation : x ≢ 0 → Reticulation (network (nodes_in n l)) r
   read_reticulation d z = d (sym read ∙ z)
 
 module _ {n : ℕ} (l : List ℕ) {p : List ℕ} (few : n ≤ 127) (ok : Sound (network (nodes_in n l))) (parted : Parted (network (nodes_in n l)) p) where

@@ -22,10 +22,10 @@ use Rattle.layout.specs.inner.Parts.{Parted}
 use Rattle.layout.specs.inner.Tree.{up_column, lateral_column, rank_column, arcs_column, Held}
 
 -- a principal parent fits
-pub principal_low : (n : ℕ) (l : List ℕ) → n ≤ 127 → Sound (network (nodes_in n l)) → (v x : ℕ) → v < n → x ≡ principal l (v + 1) → x ≤ 127
+pub principal_low : (n : ℕ) (l : List ℕ) → n ≤ 127 → Sound (network (nodes_in n l)) → (v x : ℕ) → 1 ≤ v → v ≤ n → x ≡ principal l v → x ≤ 127
 unfolding network nodes_in
-principal_low n l few ok v x u e =
-    omega (arith, within_in n (principal l) (v + 1) (omega arith) (omega arith), ok.in_principal (v + 1) (record { low = omega arith; high = omega arith }))
+principal_low n l few ok v x low high e =
+    omega (arith, within_in n (principal l) v low high, ok.in_principal v (record { low = low; high = high }))
 
 -- the columns one after another: each is clear until it is filled, and kept after
 module _ (n : ℕ) (l p : List ℕ) (few : n ≤ 127) where

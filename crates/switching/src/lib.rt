@@ -1,7 +1,7 @@
 // The tree that a network displays, kept for one switching after another: single reticulations are turned, so that a trial of the search fills no table.
 #![tactic(auto)]
 
-ghost use Rattle.std.specs.Prelude.{◌≡◌, ℕ, ◌≤◌, ◌<◌, ◌+◌, length};
+ghost use Rattle.std.specs.Prelude.{◌≡◌, ℕ, ◌≤◌, ◌<◌, ◌-◌, length};
 ghost use Rattle.tables.specs.Columns.{entry, column, blank};
 ghost use Rattle.topology.specs.Networks.{Sound, Reticulation};
 ghost use Rattle.topology.specs.Switchings.{all_principal};
@@ -27,27 +27,23 @@ pub fn bit(x: u32, k: u32, j: u32) -> u32
 }
 
 // Every node takes its principal parent.
+#[tactic(auto, using(tables::proofs::Columns::column_none, tables::proofs::Columns::column_turn, tables::proofs::Columns::column_done))]
 fn principal_parents(n: usize, lines: &lines::Lines, t: &mut tree::Tree)
     requires { (n ≤ 127) × Sound (network (nodes_in n lines.now)) }
     ensures { t.new ≡ column up_column n t.old (principal lines.now) }
 {
-    let mut v: usize = 0;
-    while v < n {
-        let w = v + 1;
-        tables::put(t, tree::UP, w, lines::principal(lines, w) as u32);
-        v = w;
+    for v in 1..=n {
+        tables::put(t, tree::UP, v, lines::principal(lines, v) as u32);
     }
 }
 
+#[tactic(auto, using(tables::proofs::Columns::column_none, tables::proofs::Columns::column_turn, tables::proofs::Columns::column_done))]
 fn ranks(n: usize, parts: &parts::Parts, t: &mut tree::Tree)
     requires { n ≤ 127 }
     ensures { t.new ≡ column rank_column n t.old (rank parts.now) }
 {
-    let mut v: usize = 0;
-    while v < n {
-        let w = v + 1;
-        tables::put(t, tree::RANK, w, parts::rank(parts, w));
-        v = w;
+    for v in 1..=n {
+        tables::put(t, tree::RANK, v, parts::rank(parts, v));
     }
 }
 
@@ -71,14 +67,16 @@ fn move_arc(t: &mut tree::Tree, p: usize, q: usize)
 }
 
 // The parent that reticulation r takes: b is 1 for the secondary one.
+#[tactic(auto, unfolding(crate::specs::inner::Turning::parent_taken, finite::specs::Tests::same))]
 fn parent_taken(lines: &lines::Lines, r: usize, b: u32) -> usize
     requires { r ≤ 127 }
     ensures { result ≡ parent_taken b (secondary lines.now r) (principal lines.now r) }
 {
     if b == 1 {
-        return lines::secondary(lines, r);
+        lines::secondary(lines, r)
+    } else {
+        lines::principal(lines, r)
     }
-    lines::principal(lines, r)
 }
 
 // Turns reticulation r to its secondary parent where b is 1, to its principal one where b is 0. The number of nodes serves the contract alone.
@@ -96,21 +94,20 @@ fn turn(n: usize, lines: &lines::Lines, t: &mut tree::Tree, r: usize, b: u32)
     tables::put(t, tree::LATERAL, r, b);
 }
 
-// Node v + 1, where it is a reticulation, takes the parent that the setting of its component says.
-fn turn_next(
+// Node r, where it is a reticulation, takes the parent that the setting of its component says.
+fn turn_by_setting(
     n: usize,
     lines: &lines::Lines,
     parts: &parts::Parts,
     choices: &Choices,
     k: usize,
     t: &mut tree::Tree,
-    v: usize,
+    r: usize,
 )
-    requires limits { (n ≤ 127) × (v < n) × Sound (network (nodes_in n lines.now)) × Parted (network (nodes_in n lines.now)) parts.now × ((c : ℕ) → reticulation_count (network (nodes_in n lines.now)) c ≤ 8) × (k < 4) }
-    requires turned_to { TurnedTo (network (nodes_in n lines.now)) (assembled (network (nodes_in n lines.now)) (entry choices.now k)) v t.old }
-    ensures { TurnedTo (network (nodes_in n lines.now)) (assembled (network (nodes_in n lines.now)) (entry choices.now k)) (v + 1) t.new }
+    requires limits { (n ≤ 127) × (1 ≤ r) × (r ≤ n) × Sound (network (nodes_in n lines.now)) × Parted (network (nodes_in n lines.now)) parts.now × ((c : ℕ) → reticulation_count (network (nodes_in n lines.now)) c ≤ 8) × (k < 4) }
+    requires turned_to { TurnedTo (network (nodes_in n lines.now)) (assembled (network (nodes_in n lines.now)) (entry choices.now k)) (r - 1) t.old }
+    ensures { TurnedTo (network (nodes_in n lines.now)) (assembled (network (nodes_in n lines.now)) (entry choices.now k)) r t.new }
 {
-    let r = v + 1;
     if lines::secondary(lines, r) == 0 {
         return;
     }
@@ -138,9 +135,7 @@ pub fn switch(
     requires some_held { SomeHeld (network (nodes_in n lines.now)) t.old }
     ensures { Held (network (nodes_in n lines.now)) (assembled (network (nodes_in n lines.now)) (entry choices.now k)) t.new }
 {
-    let mut v: usize = 0;
-    while v < n {
-        turn_next(n, lines, parts, choices, k, t, v);
-        v += 1;
+    for r in 1..=n {
+        turn_by_setting(n, lines, parts, choices, k, t, r);
     }
 }
