@@ -9,8 +9,7 @@ use lib.ListN.{length, drop, length-append}
 use native.Mathlib.Omega.{arith}
 use Rattle.finite.specs.Tests.{same}
 use Rattle.finite.specs.Refusals.{least_report, Refusal, verdict}
-use Rattle.finite.proofs.Cases.{by_eq}
-use Rattle.finite.proofs.Tests.{is_same, not_same}
+use Rattle.finite.proofs.Tests.{not_same}
 use Rattle.columns.specs.Writing.{written}
 use Rattle.family.specs.Families.{Contents}
 use Rattle.family.specs.Reports.{report_in}

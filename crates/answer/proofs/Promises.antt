@@ -8,16 +8,15 @@ use mathlib.Core.List.{List}
 use lib.ListN.{length}
 use native.Mathlib.Omega.{arith}
 use Rattle.finite.specs.Refusals.{Refusal, verdict, AllTell}
-use Rattle.finite.proofs.Cases.{by_eq}
 use Rattle.finite.proofs.Tests.{is_same, not_same}
-use Rattle.finite.proofs.Refusals.{told_first, told_none, first_told, first_some, none_told, verdict_small}
+use Rattle.finite.proofs.Refusals.{told_first, told_none, first_told, none_told, verdict_small}
 use Rattle.acceptance.specs.inner.Admitted.{Admitted}
 use Rattle.family.specs.Families.{Contents}
 use Rattle.family.specs.Reports.{report_in}
 use Rattle.family.proofs.Reported.{is_reported, report_least}
 use Rattle.std.specs.Prelude.{Result, Ok, Err}
 use Rattle.refusals.specs.declared.Refusal.{Refusal as Reason}
-use Rattle.refusals.specs.Numbers.{number, refused}
+use Rattle.refusals.specs.Numbers.{number}
 use Rattle.refusals.proofs.Numbers.{some, is_refusal}
 use Rattle.answer.specs.Outcome.{result_by, scratch_by, Outcome, IsRefused, IsReport, Says, Promise}
 

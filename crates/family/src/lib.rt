@@ -2,7 +2,7 @@
 #![tactic(auto)]
 
 ghost use Rattle.std.specs.Prelude.{◌≡◌, not, ◌≤◌, length};
-ghost use Rattle.finite.specs.Tests.{same, tally};
+ghost use Rattle.finite.specs.Tests.{same};
 ghost use Rattle.finite.specs.Range.{count};
 ghost use Rattle.layout.specs.Lines.{nodes_in};
 ghost use Rattle.layout.specs.inner.Parts.{reticulation_count, Parted};

@@ -1,7 +1,7 @@
 // The report: its lines, each written into what is left of the result.
 #![tactic(auto)]
 
-ghost use Rattle.std.specs.Prelude.{◌≡◌, ℕ, ◌+◌, ◌*◌, ◌≤◌, List, length, Option, IfSome};
+ghost use Rattle.std.specs.Prelude.{◌≡◌, ℕ, ◌+◌, ◌*◌, ◌≤◌, length, Option, IfSome};
 ghost use Rattle.finite.specs.Range.{count};
 ghost use Rattle.columns.specs.Writing.{written, put};
 ghost use Rattle.text_lines.specs.Lines.{line_length, Small};
