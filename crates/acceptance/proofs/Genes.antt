@@ -1,10 +1,7 @@
 -- The gene tree of an admitted sheet is the one of its gene lines: a rooted tree has each gene below its parent once, the two children of a gene are found
 -- by rising number, and what bears a leaf gene's species is a leaf.
 -- Assumes nothing.
-use mathlib.Core.Path.{◌≡◌, sym, ◌∙◌}
-use mathlib.Core.Logic.{◌≢◌, ◌⊎◌, inl, inr, ⊎_elim}
-use Prim.Native.Nat.{ℕ, ◌≤◌}
-use native.Mathlib.Omega.{arith}
+use Rattle.std.proofs.Common.{◌≡◌, sym, ◌∙◌, ◌≢◌, ◌⊎◌, inl, inr, ⊎_elim, ℕ, ◌≤◌, arith}
 use Rattle.finite.specs.Range.{children}
 use Rattle.finite.specs.Tests.{same}
 use Rattle.finite.proofs.Tests.{is_same}

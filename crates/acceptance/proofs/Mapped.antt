@@ -1,10 +1,7 @@
 -- An admitted sheet under the LCA mapping: its network is sound and its gene tree rooted and seated, so the theorem of the optimum applies to it, and
 -- every number that the report writes is within the limits of the header. A species is borne by a leaf alone, so leaf genes sit at leaves.
 -- Assumes nothing.
-use mathlib.Core.Path.{◌≡◌, refl, sym, ◌∙◌}
-use mathlib.Core.Logic.{◌≢◌}
-use Prim.Native.Nat.{ℕ, ◌+◌, ◌*◌, ◌≤◌, ◌<◌}
-use native.Mathlib.Omega.{arith}
+use Rattle.std.proofs.Common.{◌≡◌, refl, sym, ◌∙◌, ◌≢◌, ℕ, ◌+◌, ◌*◌, ◌≤◌, ◌<◌, arith}
 use Rattle.finite.specs.Range.{count, children}
 use Rattle.topology.specs.Networks.{Network, Node, Sound, is_reticulation, reticulations}
 use Rattle.topology.specs.Switchings.{Switching, parent}

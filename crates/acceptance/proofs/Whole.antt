@@ -1,8 +1,6 @@
 -- An admitted sheet is what the whole-network cost asks for: a node's arcs out are told by its shape, and a leaf gene has a leaf to rest at.
 -- Assumes nothing.
-use mathlib.Core.Path.{◌≡◌}
-use Prim.Native.Nat.{ℕ, ◌≤◌}
-use native.Mathlib.Omega.{arith}
+use Rattle.std.proofs.Common.{◌≡◌, ℕ, ◌≤◌, arith}
 use Rattle.finite.specs.Range.{children}
 use Rattle.topology.specs.Networks.{Network}
 use Rattle.topology.specs.Lines.{NodeLines, GeneLines, network}

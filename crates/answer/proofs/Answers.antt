@@ -1,14 +1,10 @@
 -- The answer of a verdict, and what follows from the promise for who has an answer in hand: which verdict it tells, that a report fits the result, and
 -- that its number is apart from every refusal's.
 -- Assumes nothing.
-use Prim.Native.Nat.{ℕ, ◌≤◌, ◌<◌}
-use mathlib.Core.Path.{◌≡◌, refl, sym, ap, ◌∙◌, subst}
-use mathlib.Core.Logic.{◌≢◌}
-use mathlib.Core.List.{List}
-use lib.ListN.{length, drop, length-append}
-use native.Mathlib.Omega.{arith}
+use Rattle.std.proofs.Common.{ℕ, ◌≤◌, ◌<◌, ◌≡◌, refl, sym, ap, ◌∙◌, subst, ◌≢◌, List, length, drop, length-append, arith}
 use Rattle.finite.specs.Tests.{same}
-use Rattle.finite.specs.Refusals.{least_report, Refusal, verdict}
+use Rattle.finite.specs.Refusals.{least_report, Refusal, verdict, First}
+use Rattle.finite.proofs.Refusals.{first_one, first_none}
 use Rattle.finite.proofs.Tests.{not_same}
 use Rattle.columns.specs.Writing.{written}
 use Rattle.family.specs.Families.{Contents}
@@ -48,6 +44,14 @@ module _ {n : ℕ} {rs : List Refusal} {X : Contents} {d e u t : List ℕ} where
   pub above_report : (r : Result ℕ Reason) → Promise n rs X d e u t r → least_report ≤ number_of r → (b : ℕ) × (r ≡ Ok b)
   above_report (Ok b) p l = (b, refl)
   above_report (Err x) p l = absurd (omega (arith, p.says.apart))
+
+-- whatever number k is the first refusal's, it is the answer's: `refuses` of the promise, said of the number in place of the name
+pub refuses_number : {n : ℕ} {rs : List Refusal} {X : Contents} {d e u t : List ℕ} {r : Result ℕ Reason} → Promise n rs X d e u t r → (k : ℕ) → First rs k → number_of r ≡ k
+refuses_number {n} {rs} {X} {d} {e} {u} {t} {r} p k f = go r p.says
+  where
+    go : (a : Result ℕ Reason) → Says n rs X d e u t a → number_of a ≡ k
+    go (Ok b) s = absurd (first_none rs k f s.none)
+    go (Err x) s = first_one rs (number x) k s.first f
 
 -- the outcome of each way out of a call
 pub refuses : (q : ℕ) (x : Reason) (X : Contents) (d u : List ℕ) → q ≡ number x → Outcome q X d d u u (Err x)

@@ -1,12 +1,7 @@
 -- The promise of a call follows from its outcome: the verdict says which refusal is the first, the refusals' conditions say when that is, and contents
 -- that none applies to are those of which the theorems on the optimum and on histories speak.
 -- Assumes nothing.
-use Prim.Native.Nat.{ℕ, ◌≤◌}
-use mathlib.Core.Path.{◌≡◌, refl, sym, ◌∙◌, subst}
-use mathlib.Core.Logic.{◌≢◌}
-use mathlib.Core.List.{List}
-use lib.ListN.{length}
-use native.Mathlib.Omega.{arith}
+use Rattle.std.proofs.Common.{ℕ, ◌≤◌, ◌≡◌, refl, sym, ◌∙◌, subst, ◌≢◌, List, length, arith}
 use Rattle.finite.specs.Refusals.{Refusal, verdict, AllTell}
 use Rattle.finite.proofs.Tests.{is_same, not_same}
 use Rattle.finite.proofs.Refusals.{told_first, told_none, first_told, none_told, verdict_small}

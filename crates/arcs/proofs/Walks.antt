@@ -1,12 +1,12 @@
 -- The walk keeps its order: a node whose parents stand is put at the place after the last, so it comes after them, and no other node changes its place.
 -- A node that has no place is not counted, so there is one left for it.
 -- Assumes nothing.
-use Rattle.std.proofs.Common.{◌≡◌, ◌≢◌, refl, sym, ap, ◌∙◌, Bool, true, not, List, ℕ, zero, suc, ◌+◌, ◌≤◌, ◌<◌, arith}
+use Rattle.std.proofs.Common.{◌≡◌, ◌≢◌, refl, sym, ap, ◌∙◌, Bool, true, not, ℕ, zero, suc, ◌+◌, ◌≤◌, ◌<◌, arith}
 use Rattle.std.proofs.Math.ListN.{set, length-set}
 use Rattle.std.proofs.Math.Seq.{get_or-set_same, get_or-set_other}
 use Rattle.finite.specs.Tests.{same, tally}
 use Rattle.finite.specs.Range.{sum, count}
-use Rattle.finite.specs.Tables.{zeros}
+use Rattle.finite.specs.Tables.{at, zeros}
 use Rattle.finite.proofs.Cases.{by_eq}
 use Rattle.finite.proofs.Tests.{is_same, not_same, tally_le, not_no, not_yes, tally_no, tally_yes}
 use Rattle.finite.proofs.Sum.{sum_short, sum_point}
@@ -15,11 +15,11 @@ use Rattle.finite.proofs.Tables.{zeros_long, zeros_at}
 use Rattle.topology.specs.Networks.{Network, Node, Sound}
 use Rattle.topology.specs.Lines.{network}
 use Rattle.topology.proofs.Above.{fall_principal, fall_secondary}
-use Rattle.layout.specs.Lines.{principal, secondary, nodes_in}
+use Rattle.layout.specs.declared.lines.NodeColumns.{NodeColumns}
+use Rattle.layout.specs.Lines.{nodes_in}
 use Rattle.layout.proofs.Numbered.{principal_in, secondary_in}
 use Rattle.histories.specs.inner.Grades.{Order}
 use Rattle.arcs.specs.declared.Walk.{Walk}
-use Rattle.arcs.specs.inner.Arcs.{network_in}
 use Rattle.arcs.specs.inner.Walks.{order, place, Walked, Due, Visited}
 
 -- whether v stands
@@ -107,40 +107,43 @@ pub visited_then : {N : Network} {p v : ℕ} {w w₁ w₂ : Walk} → Visited N 
 visited_then A B = record { walked = B.walked; stands = B.stands; stay = λ u d. B.stay u (A.stay u d) }
 
 -- the parents of node v in the lines: they are nodes or 0, their rank is less, and once both are visited v is due
-module _ (n v : ℕ) (lines : List ℕ) (high : v ≤ n) (some : v ≢ 0) (ok : Sound (network_in n lines)) where
-  node_v : Node (network_in n lines) v
+module _ (n v : ℕ) (l : NodeColumns) (high : v ≤ n) (some : v ≢ 0) (ok : Sound (network (nodes_in n l))) where
+  abbrev M : Network
+  M = network (nodes_in n l)
+
+  node_v : Node M v
   unfolding network nodes_in
   node_v = record { low = omega arith; high = high }
 
-  principal_is : (p : ℕ) → p ≡ principal lines v → (network_in n lines).principal v ≡ p
+  principal_is : M.principal v ≡ at l.principal v
   unfolding network
-  principal_is p e = principal_in n lines v (omega arith) high ∙ sym e
+  principal_is = principal_in n l v (omega arith) high
 
-  secondary_is : (p : ℕ) → p ≡ secondary lines v → (network_in n lines).secondary v ≡ p
+  secondary_is : M.secondary v ≡ at l.secondary v
   unfolding network
-  secondary_is p e = secondary_in n lines v (omega arith) high ∙ sym e
+  secondary_is = secondary_in n l v (omega arith) high
 
-  pub principal_high : (p : ℕ) → p ≡ principal lines v → p ≤ n
+  pub principal_high : at l.principal v ≤ n
   unfolding network nodes_in
-  principal_high p e = rw (principal_is p e) at (ok.in_principal v node_v)
+  principal_high = rw principal_is at (ok.in_principal v node_v)
 
-  pub secondary_high : (p : ℕ) → p ≡ secondary lines v → p ≤ n
+  pub secondary_high : at l.secondary v ≤ n
   unfolding network nodes_in
-  secondary_high p e = rw (secondary_is p e) at (ok.in_secondary v node_v)
+  secondary_high = rw secondary_is at (ok.in_secondary v node_v)
 
-  pub principal_falls : (p t : ℕ) → p ≡ principal lines v → (network_in n lines).rank v ≡ t → (network_in n lines).rank p < t
-  principal_falls p t e q = rw (principal_is p e, q) at (fall_principal (network_in n lines) ok v some)
+  pub principal_falls : (t : ℕ) → M.rank v ≡ t → M.rank (at l.principal v) < t
+  principal_falls t q = rw (principal_is, q) at (fall_principal M ok v some)
 
-  pub secondary_falls : (p t : ℕ) → p ≡ secondary lines v → (network_in n lines).rank v ≡ t → (network_in n lines).rank p < t
-  secondary_falls p t e q = by_eq p 0
+  pub secondary_falls : (t : ℕ) → M.rank v ≡ t → M.rank (at l.secondary v) < t
+  secondary_falls t q = by_eq (at l.secondary v) 0
       (λ z. rw (← q, z, ok.rank_none) (ok.rank_some v some))
-      (λ d. rw (secondary_is p e, q) at (fall_secondary (network_in n lines) ok v (λ z. d (sym (secondary_is p e) ∙ z))))
+      (λ d. rw (secondary_is, q) at (fall_secondary M ok v (λ z. d (sym secondary_is ∙ z))))
 
-  pub due : {p s : ℕ} {w w₁ w₂ : Walk} → p ≡ principal lines v → s ≡ secondary lines v → Visited (network_in n lines) p w w₁ → Visited (network_in n lines) s w₁ w₂ → Due (network_in n lines) v w₂
-  due {p} {s} ep es A B = record {
+  pub due : {w w₁ w₂ : Walk} → Visited M (at l.principal v) w w₁ → Visited M (at l.secondary v) w₁ w₂ → Due M v w₂
+  due A B = record {
     node = node_v;
-    principal = λ d. rw (principal_is p ep) (B.stay p (A.stands (λ z. d (principal_is p ep ∙ z))));
-    secondary = λ d. rw (secondary_is s es) (B.stands (λ z. d (secondary_is s es ∙ z)));
+    principal = λ d. rw principal_is (B.stay (at l.principal v) (A.stands (λ z. d (principal_is ∙ z))));
+    secondary = λ d. rw secondary_is (B.stands (λ z. d (secondary_is ∙ z)));
   }
 
 -- before the walk nobody stands

@@ -5,19 +5,17 @@
 ghost use Rattle.std.specs.Prelude.{◌≡◌, ◌≤◌};
 ghost use Rattle.finite.specs.Tables.{at};
 ghost use Rattle.topology.specs.Networks.{Network, Sound};
-ghost use Rattle.layout.specs.Lines.{nodes_in};
+ghost use Rattle.layout.specs.Lines.{nodes_of, network_of};
 ghost use Rattle.histories.specs.inner.Grades.{Order};
-ghost use Rattle.arcs.specs.inner.Arcs.{leaving, leaving_in, network_in, Laid};
+ghost use Rattle.arcs.specs.inner.Arcs.{leaving, leaving_in, Laid};
 ghost use Rattle.arcs.specs.inner.Walks.{place, Walked, Due, Visited};
 
-use layout::lines;
-use layout::lines::{Lines, PRINCIPAL, SECONDARY};
-use tables::column::{Column, next_children};
-use text_lines::FIELDS;
+use layout::lines::Lines;
+use tables::{Column, next_children};
 
 #[derive(Clone, Copy)]
 pub struct Arcs {
-    // The node at each place.
+    // The node at each place; and of each node those that its arcs lead to, 0 for none as for a parent.
     pub order: Column,
     pub first: Column,
     pub second: Column,
@@ -37,11 +35,11 @@ impl Arcs {
     // The arcs out of node v.
     pub fn out(&self, lines: &Lines, v: usize) -> Out
         requires { v ≤ 127 }
-        ensures { leaving result ≡ leaving_in lines.now self.now v }
+        ensures { leaving result ≡ leaving_in lines.now.nodes self.now v }
     {
         let x = self.first[v] as usize;
         if x == 0 {
-            return Out::Leaf(lines::node_species(lines, v));
+            return Out::Leaf(lines.nodes.species[v] as usize);
         }
         let y = self.second[v] as usize;
         if y != 0 {
@@ -55,7 +53,8 @@ impl Arcs {
     }
 }
 
-// The walk that puts the nodes in order: who stands at each place, how many stand, and where each node stands, 0 for not yet.
+// The walk that puts the nodes in order: who stands at each place, how many stand, and where each node stands, 0 for not yet
+// (a number as in the laws; an Option would add a test and a conversion where it is read).
 #[derive(Clone, Copy)]
 struct Walk {
     order: Column,
@@ -78,9 +77,9 @@ impl Walk {
     }
 
     // Node v comes into the order, after its parents and theirs; what is no node does not.
-    fn visit(&mut self, n: usize, v: usize, lines: &Lines)
-        requires { (n ≤ 127) × (v ≤ n) × Sound (network_in n lines.now) × Walked (network_in n lines.now) self.old }
-        ensures { Visited (network_in n lines.now) v self.old self.new }
+    fn visit(&mut self, v: usize, lines: &Lines)
+        requires { (v ≤ lines.now.header.nodes) × Sound (network_of lines.now) × Walked (network_of lines.now) self.old }
+        ensures { Visited (network_of lines.now) v self.old self.new }
     {
         if v == 0 {
             return;
@@ -88,42 +87,44 @@ impl Walk {
         if self.place[v] != 0 {
             return;
         }
-        self.visit(n, lines::principal(lines, v), lines);
-        self.visit(n, lines::secondary(lines, v), lines);
+        self.visit(lines.nodes.principal[v] as usize, lines);
+        self.visit(lines.nodes.secondary[v] as usize, lines);
         self.append(v);
     }
 }
 
 // The nodes in an order in which each comes after its parents.
-fn order_nodes(n: usize, lines: &Lines) -> Column
-    requires { (n ≤ 127) × Sound (network_in n lines.now) }
-    ensures { Order (network_in n lines.now) (at result) }
+fn order_nodes(lines: &Lines) -> Column
+    requires { Sound (network_of lines.now) }
+    ensures { Order (network_of lines.now) (at result) }
 {
     let mut walk = Walk {
         order: [0; 128],
         standing: 0,
         place: [0; 128],
     };
-    for v in 1..=n {
-        walk.visit(n, v, lines);
+    for v in 1..=lines.header.nodes {
+        walk.visit(v, lines);
     }
     walk.order
 }
 
 // The arcs of the network that the lines describe. Above zeros the next child is the lowest.
-pub fn lay(n: usize, lines: &Lines) -> Arcs
-    requires { (n ≤ 127) × Sound (network_in n lines.now) }
-    ensures { Laid (nodes_in n lines.now) result }
+pub fn lay(lines: &Lines) -> Arcs
+    requires { Sound (network_of lines.now) }
+    ensures { Laid (nodes_of lines.now) result }
 {
+    let n = lines.header.nodes;
+    let nodes = &lines.nodes;
     let zeros = [0; 128];
     let mut arcs = Arcs {
-        order: order_nodes(n, lines),
+        order: order_nodes(lines),
         first: zeros,
         second: zeros,
         other: zeros,
     };
-    next_children(n, lines, PRINCIPAL, FIELDS, &zeros, &mut arcs.first);
-    next_children(n, lines, PRINCIPAL, FIELDS, &arcs.first, &mut arcs.second);
-    next_children(n, lines, SECONDARY, FIELDS, &zeros, &mut arcs.other);
+    next_children(n, &nodes.principal, &zeros, &mut arcs.first);
+    next_children(n, &nodes.principal, &arcs.first, &mut arcs.second);
+    next_children(n, &nodes.secondary, &zeros, &mut arcs.other);
     arcs
 }

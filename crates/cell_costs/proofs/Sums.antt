@@ -1,20 +1,15 @@
 -- Sums of words: what is computed on words is what the definitions compute on costs, for the word for no history is the highest, and a sum that it
 -- enters is no lower.
 -- Assumes nothing.
-use mathlib.Core.Path.{◌≡◌, refl, sym, ap, ◌∙◌}
-use mathlib.Core.Logic.{◌≢◌}
+use Rattle.std.proofs.Common.{◌≡◌, refl, sym, ap, ◌∙◌, ◌≢◌, List, ℕ, ◌+◌, ◌-◌, ◌≤◌, ◌<◌, min, get_or, length, take, drop, length-drop, take_all, arith}
 use mathlib.Core.Option.{none, some}
-use mathlib.Core.List.{List}
-use Prim.Native.Nat.{ℕ, ◌+◌, ◌-◌, ◌≤◌, ◌<◌, min}
-use lib.ListN.{get_or, length, take, drop, length-drop}
-use lib.Seq.{take_all}
-use native.Mathlib.Omega.{arith}
 use Rattle.std.specs.Prelude.{Result, Ok, Err}
 use Rattle.std.specs.Result.{OkIff, result_unwrap_or}
 use Rattle.finite.proofs.Tests.{is_under, not_under}
 use Rattle.finite.proofs.Cases.{by_eq, by_less}
-use Rattle.histories.specs.Histories.{Cost, ◌lesser◌, ◌⊕◌, then, both}
+use Rattle.histories.specs.Histories.{Out, leaf, one, two, mixed, Cost, ◌lesser◌, ◌⊕◌, then, both}
 use Rattle.histories.specs.Words.{no_history, cost_of}
+use Rattle.histories.specs.inner.Grades.{Leads}
 use Rattle.histories.specs.inner.Rows.{cost_at, Small, Cell}
 use Rattle.histories.proofs.Words.{cost_none, cost_some}
 use Rattle.cell_costs.specs.inner.Costs.{cost_in}
@@ -56,6 +51,14 @@ sum_both x a b l h i = by_eq a no_history
     (λ e. rw (cost_some d, cost_none e) (sum_none (omega arith)))
     (λ e. let u = small_word a h d in let w = small_word b i e in rw (cost_some d, cost_some e) (sum_some (omega arith))))
 
+-- an event before two histories, in either order
+pub both_swap : (x : ℕ) (A B : Cost) → both x A B ≡ both x B A
+unfolding both ◌⊕◌
+both_swap x none none = refl
+both_swap x none (some b) = refl
+both_swap x (some a) none = refl
+both_swap x (some a) (some b) = ap some (omega arith)
+
 -- the lesser of two sums
 pub lesser_of : (r a b : ℕ) {A B : Cost} → r ≡ min a b → cost_in a ≡ A → cost_in b ≡ B → cost_in r ≡ (A lesser B)
 unfolding ◌lesser◌
@@ -81,6 +84,14 @@ module _ (x : ℕ) (l : x ≤ 198) (r : List ℕ) (u a : ℕ) (h : Cell r u) (ea
   pub both_at : (q : List ℕ) (v b : ℕ) → Cell q v → b ≡ get_or q (v - 1) 0 → cost_in (x + a + b) ≡ both x (cost_at r u) (cost_at q v)
   unfolding cost_at
   both_at q v b i eb = rw (ea, eb) (sum_both x (get_or r (u - 1) 0) (get_or q (v - 1) 0) l h.small i.small)
+
+-- where the rows of both children may be read at the ends of arcs
+pub leads_both : (P Q : ℕ → Type 0) (o : Out) → Leads P o → Leads Q o → Leads (λ x. P x × Q x) o
+unfolding Leads
+leads_both P Q (leaf s) p q = tt
+leads_both P Q (one x) p q = (p, q)
+leads_both P Q (two x y) p q = ((p.0, q.0), (p.1, q.1))
+leads_both P Q (mixed x y) p q = ((p.0, q.0), (p.1, q.1))
 
 -- a part lent from a row's start on is the row
 pub row_part : (s : List ℕ) (r : ℕ) → take (length s - r) (drop r s) ≡ drop r s

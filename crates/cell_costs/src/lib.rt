@@ -12,12 +12,13 @@ ghost use Rattle.histories.specs.Words.{cost_of};
 ghost use Rattle.histories.specs.inner.Grades.{Leads};
 ghost use Rattle.histories.specs.inner.Rows.{row, cost_at, Cell};
 ghost use Rattle.arcs.specs.inner.Arcs.{leaving};
-ghost use Rattle.cell_costs.specs.inner.Costs.{cost_in, Children, transferring, tip_cost, inner_cost};
+ghost use Rattle.cell_costs.specs.inner.Costs.{cost_in, left_cost, right_cost, BothCells, parted, transferring, tip_cost, inner_cost};
 
 use arcs::Out;
 use layout::Header;
 
 // The word of a cost.
+#[tactic(auto, using(crate::proofs::Sums::clip))]
 pub fn clipped(c: usize) -> u32
     ensures { cost_of result ≡ cost_in c }
 {
@@ -25,19 +26,12 @@ pub fn clipped(c: usize) -> u32
 }
 
 // An event of cost c, then the history of the gene with this row from v on.
-fn after(c: usize, row: &[u32], v: usize) -> usize
+#[tactic(auto, using(crate::proofs::Sums::then_at))]
+fn after(row: &[u32], c: usize, v: usize) -> usize
     requires { (c ≤ 198) × Cell row.now v }
     ensures { cost_in result ≡ then c (cost_at row.now v) }
 {
     c + row[v - 1] as usize
-}
-
-// An event of cost c, then the histories of two children with the rows a and b, from u and from v on.
-fn after_both(c: usize, a: &[u32], u: usize, b: &[u32], v: usize) -> usize
-    requires { (c ≤ 198) × Cell a.now u × Cell b.now v }
-    ensures { cost_in result ≡ both c (cost_at a.now u) (cost_at b.now v) }
-{
-    c + a[u - 1] as usize + b[v - 1] as usize
 }
 
 // "rest, if both are leaves of one species": a leaf gene at a leaf.
@@ -51,67 +45,88 @@ fn rest(gene_species: usize, node_species: usize) -> usize
     }
 }
 
-// The children with the rows a and b part, for a cost c: one starts at x, the other at y.
-fn parted(c: usize, a: &[u32], b: &[u32], x: usize, y: usize) -> usize
-    requires { (c ≤ 99) × Cell a.now x × Cell b.now x × Cell a.now y × Cell b.now y }
-    ensures { cost_in result ≡ (both c (cost_at a.now x) (cost_at b.now y) lesser both c (cost_at b.now x) (cost_at a.now y)) }
-{
-    after_both(c, a, x, b, y).min(after_both(c, b, x, a, y))
+// The rows of a gene's two children.
+#[derive(Clone, Copy)]
+pub struct Children<'a> {
+    pub left: &'a [u32],
+    pub right: &'a [u32],
 }
 
-// One of them goes along the secondary arc to z, while the other stays at v or takes the principal arc to x.
-fn transferred(a: &[u32], b: &[u32], v: usize, x: usize, z: usize, t: usize) -> usize
-    requires { (t ≤ 99) × Cell a.now z × Cell b.now z × Cell a.now v × Cell b.now v × Cell a.now x × Cell b.now x }
-    ensures { cost_in result ≡ transferring t (cost_at a.now) (cost_at b.now) v x z }
-{
-    parted(t, a, b, z, v).min(parted(t, a, b, z, x))
+impl Children<'_> {
+    // An event of cost c, then the histories of the left child from u and of the right child from v on.
+    #[tactic(auto, using(crate::proofs::Sums::both_at))]
+    fn both(self, c: usize, u: usize, v: usize) -> usize
+        requires { (c ≤ 198) × Cell self.left.now u × Cell self.right.now v }
+        ensures { cost_in result ≡ both c (left_cost self.entry u) (right_cost self.entry v) }
+    {
+        c + self.left[u - 1] as usize + self.right[v - 1] as usize
+    }
+
+    // The children part, for a cost c: one starts at x, the other at y.
+    fn parted(self, c: usize, x: usize, y: usize) -> usize
+        requires { (c ≤ 99) × BothCells self x × BothCells self y }
+        ensures { cost_in result ≡ parted c (left_cost self.entry) (right_cost self.entry) x y }
+    {
+        self.both(c, x, y).min(self.both(c, y, x))
+    }
+
+    // One of them goes along the secondary arc to z, for a cost t, while the other stays at v or takes the principal arc to x.
+    fn transferred(self, t: usize, v: usize, x: usize, z: usize) -> usize
+        requires { (t ≤ 99) × BothCells self v × BothCells self x × BothCells self z }
+        ensures { cost_in result ≡ transferring t (left_cost self.entry) (right_cost self.entry) v x z }
+    {
+        self.parted(t, z, v).min(self.parted(t, z, x))
+    }
 }
 
 // The gene with the row g goes down one of two principal arcs, to x and y, with a loss.
-fn lost(g: &[u32], x: usize, y: usize, l: usize) -> usize
+#[tactic(auto, using(crate::proofs::Sums::lesser_of))]
+fn lost(g: &[u32], l: usize, x: usize, y: usize) -> usize
     requires { (l ≤ 99) × Cell g.now x × Cell g.now y }
     ensures { cost_in result ≡ (then l (cost_at g.now x) lesser then l (cost_at g.now y)) }
 {
-    after(l, g, x).min(after(l, g, y))
+    after(g, l, x).min(after(g, l, y))
 }
 
 // It goes along the secondary arc to z with a transfer and a loss, or down the only principal arc, to x, free.
-fn carried(g: &[u32], x: usize, z: usize, t: usize, l: usize) -> usize
+#[tactic(auto, using(crate::proofs::Sums::lesser_of))]
+fn carried(g: &[u32], t: usize, l: usize, x: usize, z: usize) -> usize
     requires { (t ≤ 99) × (l ≤ 99) × Cell g.now x × Cell g.now z }
     ensures { cost_in result ≡ (then (t + l) (cost_at g.now z) lesser then 0 (cost_at g.now x)) }
 {
-    after(t + l, g, z).min(after(0, g, x))
+    after(g, t + l, z).min(after(g, 0, x))
 }
 
 // The least cost of a leaf gene of this species, with the row g, at a node with these arcs out: it rests, or it moves on.
+#[tactic(auto, unfolding(histories::specs::inner::Grades::Leads))]
 pub fn tip_cost(h: Header, g: &[u32], species: usize, out: Out) -> usize
     requires { WithinLimits h × Leads (Cell g.now) (leaving out) }
     ensures { cost_in result ≡ tip_cost h.transfer h.loss species (cost_at g.now) (leaving out) }
 {
     match out {
         Out::Leaf(node_species) => rest(species, node_species),
-        Out::One(x) => after(0, g, x),
-        Out::Two(x, y) => lost(g, x, y, h.loss as usize),
-        Out::Mixed(x, z) => carried(g, x, z, h.transfer as usize, h.loss as usize),
+        Out::One(x) => after(g, 0, x),
+        Out::Two(x, y) => lost(g, h.loss as usize, x, y),
+        Out::Mixed(x, z) => carried(g, h.transfer as usize, h.loss as usize, x, z),
     }
 }
 
-// The least cost of an inner gene with the row g, whose children have the rows a and b, at a node v with these arcs out: both children start there, or they
-// part, or it moves on.
-pub fn inner_cost(h: Header, a: &[u32], b: &[u32], g: &[u32], v: usize, out: Out) -> usize
-    requires { WithinLimits h × Leads (Cell g.now) (leaving out) × Children a.now b.now v (leaving out) }
-    ensures { cost_in result ≡ inner_cost h.duplication h.transfer h.loss (cost_at a.now) (cost_at b.now) (cost_at g.now) v (leaving out) }
+// The least cost of an inner gene with the row g, at a node v with these arcs out: both its children start there, or they part, or it moves on.
+#[tactic(auto, unfolding(histories::specs::inner::Grades::Leads))]
+pub fn inner_cost(h: Header, children: Children, g: &[u32], v: usize, out: Out) -> usize
+    requires { WithinLimits h × Leads (Cell g.now) (leaving out) × BothCells children v × Leads (BothCells children) (leaving out) }
+    ensures { cost_in result ≡ inner_cost h.duplication h.transfer h.loss (left_cost children.entry) (right_cost children.entry) (cost_at g.now) v (leaving out) }
 {
-    let here = after_both(h.duplication as usize, a, v, b, v);
+    let here = children.both(h.duplication as usize, v, v);
     let t = h.transfer as usize;
     let l = h.loss as usize;
     match out {
         Out::Leaf(_) => here,
-        Out::One(x) => here.min(after(0, g, x)),
-        Out::Two(x, y) => here.min(parted(0, a, b, x, y)).min(lost(g, x, y, l)),
+        Out::One(x) => here.min(after(g, 0, x)),
+        Out::Two(x, y) => here.min(children.parted(0, x, y)).min(lost(g, l, x, y)),
         Out::Mixed(x, z) => here
-            .min(transferred(a, b, v, x, z, t))
-            .min(carried(g, x, z, t, l)),
+            .min(children.transferred(t, v, x, z))
+            .min(carried(g, t, l, x, z)),
     }
 }
 

@@ -1,11 +1,6 @@
 -- `same_bytes` decides whether two lists of bytes are equal: by induction on both.
 -- Assumes nothing.
-use Prim.Native.Nat.{ℕ}
-use mathlib.Core.Path.{◌≡◌, refl}
-use mathlib.Core.Bool.{true}
-use mathlib.Core.List.{List, [], ◌∷◌}
-use lib.Dec.{eqb}
-use borrow.Author.Tests.{eqb-true, eq-eqb}
+use Rattle.std.proofs.Common.{ℕ, ◌≡◌, refl, true, List, [], ◌∷◌, eqb, eqb-true, eq-eqb}
 use Rattle.finite.proofs.Tests.{and_l, and_r}
 use Rattle.columns.specs.Fields.{same_bytes}
 

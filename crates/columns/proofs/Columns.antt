@@ -1,16 +1,9 @@
 -- A number's columns, column by column. A number below 1,000,000 has one to six digits; in each of the six cases its numeral is found by that many
 -- divisions by ten, and each column is the byte that its place value gives (`columns_are`).
 -- Assumes nothing.
-use Prim.Native.Nat.{ℕ, zero, suc, ◌+◌, ◌-◌, ◌*◌, ◌/◌, ◌%◌, ◌≤◌, ◌<◌}
-use mathlib.Core.Path.{◌≡◌, refl, ap}
-use mathlib.Core.Bool.{cond}
-use mathlib.Core.List.{List, [], ◌∷◌, ◌++◌}
-use lib.ListN.{length, get_or, drop, length-append, length-replicate, length-drop}
-use lib.Seq.{get_or-take, get_or-drop, ext_get_or, length-take-le}
-use lib.Dec.{ltb, lit<, lit≤}
-use native.Mathlib.Nat.{div-div-eq-div-mul, mul-le-mul}
-use native.Mathlib.Omega.{arith}
-use borrow.Author.Tests.{lt-ltb, le-ltb}
+use Rattle.std.proofs.Common.{ℕ, zero, suc, ◌+◌, ◌-◌, ◌*◌, ◌/◌, ◌%◌, ◌≤◌, ◌<◌, ◌≡◌, refl, ap, cond, List, [], ◌∷◌, ◌++◌, length, get_or, drop, length-append, length-drop, get_or-take, get_or-drop, ext_get_or, length-take-le, ltb, lit<, lit≤, mul-le-mul, arith, lt-ltb, le-ltb}
+use lib.ListN.{length-replicate}
+use native.Mathlib.Nat.{div-div-eq-div-mul}
 use Rattle.finite.proofs.Cases.{by_less}
 use Rattle.columns.specs.Fields.{numeral_in, numeral, columns, place_value, column_of, six}
 

@@ -1,16 +1,8 @@
 -- A number below 1,000,000 has exactly one spelling and reading finds it: its columns are worth the number (`read_back`), so two numbers with the
 -- same columns are the same, and `field_at` answers a number just where the six bytes spell it.
 -- Assumes nothing.
-use Prim.Native.Nat.{ℕ, min, ◌+◌, ◌-◌, ◌*◌, ◌/◌, ◌%◌, ◌≤◌, ◌<◌}
-use mathlib.Core.Path.{◌≡◌, refl, sym, ap, ◌∙◌, subst}
-use mathlib.Core.Bool.{Bool, true, false, cond}
-use mathlib.Core.List.{List}
-use lib.ListN.{length, get_or, length-take, length-drop}
-use lib.Dec.{ltb, lit≤}
+use Rattle.std.proofs.Common.{ℕ, min, ◌+◌, ◌-◌, ◌*◌, ◌/◌, ◌%◌, ◌≤◌, ◌<◌, ◌≡◌, refl, sym, ap, ◌∙◌, subst, Bool, true, false, cond, List, length, get_or, length-take, length-drop, ltb, lit≤, add-one, arith, ltb-true, ltb-false, le-ltb}
 use native.Mathlib.Nat.{div-eq_of_lt, min-le_right}
-use native.Mathlib.Numerals.{add-one}
-use native.Mathlib.Omega.{arith}
-use borrow.Author.Tests.{ltb-true, ltb-false, le-ltb}
 use Rattle.finite.proofs.Cases.{by_bool, clash}
 use Rattle.columns.specs.Fields.{columns, place_value, column_of, digit_of, worth_of, six, spells, field_at, FieldIs}
 use Rattle.columns.specs.declared.Cursor.{Cursor}

@@ -1,15 +1,9 @@
 -- Six bytes that fit column by column are the columns of what they are worth (`all_fit`), and the columns of a number fit (`columns_fit`), so that
 -- a byte that does not fit leaves no number (`misfit`). Each column is met by its place value: the digits before it, it, and what is behind.
 -- Assumes nothing.
-use Prim.Native.Nat.{ℕ, zero, suc, ◌+◌, ◌-◌, ◌*◌, ◌/◌, ◌%◌, ◌≤◌, ◌<◌}
-use mathlib.Core.Path.{◌≡◌, refl, sym, ◌∙◌}
-use mathlib.Core.Bool.{true, false, cond}
-use mathlib.Core.List.{List, [], ◌∷◌}
-use lib.ListN.{length, get_or}
-use lib.Dec.{ltb, eqb, lit<}
-use native.Mathlib.Nat.{div-eq_of_lt, div-div-eq-div-mul, mul-add-div_right, mul-le-mul_right, one-mul}
-use native.Mathlib.Omega.{arith}
-use borrow.Author.Tests.{ltb-false, eqb-true, eqb-false, lt-ltb, le-ltb, ne_eqb}
+use Rattle.std.proofs.Common.{ℕ, zero, suc, ◌+◌, ◌-◌, ◌*◌, ◌/◌, ◌%◌, ◌≤◌, ◌<◌, ◌≡◌, refl, sym, ◌∙◌, true, false, cond, List, [], ◌∷◌, length, get_or, ltb, eqb, lit<, mul-le-mul_right, one-mul, arith, ltb-false, eqb-true, lt-ltb, le-ltb, ne_eqb}
+use native.Mathlib.Nat.{div-eq_of_lt, div-div-eq-div-mul, mul-add-div_right}
+use borrow.Author.Tests.{eqb-false}
 use Rattle.finite.proofs.Cases.{by_bool, by_eq, by_less, clash}
 use Rattle.columns.specs.Fields.{columns, place_value, column_of, digit_of, worth_of, six, field_at}
 use Rattle.columns.specs.inner.Scans.{Blank, digit, opening, fitting}

@@ -1,14 +1,8 @@
 -- Writing into the front of a part that is lent. A loop keeps what is written so far, then the rest as it was (`written`); a part `&mut d[at..]`
 -- that comes back written is the whole written at `at` (`lent`), and writing twice one after the other is writing both (`put_written`).
 -- Assumes nothing.
-use Prim.Native.Nat.{ℕ, suc, ◌+◌, ◌-◌, ◌≤◌, ◌<◌}
-use mathlib.Core.Path.{◌≡◌, refl, sym, ap, ◌∙◌}
-use mathlib.Core.List.{List, [], ◌∷◌, ◌++◌, append_assoc, append-nil}
-use lib.ListN.{length, get_or, take, drop, set, replicate, length-append, length-drop, length-replicate, get_or-replicate, take-append-drop, drop_of_length-le}
-use lib.Seq.{paste, paste-zero, paste-suc, take_at, drop_at, take_all, set_split, drop-append-add, drop-drop, length-take-le, get_or-drop}
-use native.Mathlib.Numerals.{add-one}
-use native.Mathlib.Omega.{arith}
-use borrow.Author.Tests.{lt-ltb}
+use Rattle.std.proofs.Common.{ℕ, suc, ◌+◌, ◌-◌, ◌≤◌, ◌<◌, ◌≡◌, refl, sym, ap, ◌∙◌, List, [], ◌∷◌, ◌++◌, append_assoc, append-nil, length, get_or, take, drop, set, replicate, length-append, length-drop, take-append-drop, drop_of_length-le, take_at, drop_at, take_all, drop-drop, length-take-le, get_or-drop, add-one, arith, lt-ltb}
+use lib.Seq.{paste, paste-zero, paste-suc, set_split}
 use borrow.Rule.Slice.PartMut.{put_mid}
 use Rattle.columns.specs.Fields.{columns, column_of}
 use Rattle.columns.specs.inner.Scans.{front_count}
@@ -55,19 +49,6 @@ set_put : (x : List ℕ) (k n : ℕ) → k < length x → set x k n ≡ put x k 
 unfolding put written
 set_put x k n h = set_split x k n h ∙ rw (drop-drop, add-one)
 
-pub put_set : (d ns : List ℕ) (at i n : ℕ) → length ns ≡ i → at + i < length d → set (put d at ns) (at + i) n ≡ put d at (ns ++ (n ∷ []))
-put_set d ns at i n e h = set_put (put d at ns) (at + i) n (omega (arith, length_put d at ns (omega arith))) ∙ put_put d at (at + i) ns (n ∷ []) (omega arith) (omega arith)
-
--- what is put over another piece covers it, if it is no shorter
-pub put_over : (d p q : List ℕ) (at : ℕ) → at ≤ length d → length p ≤ length q → put (put d at p) at q ≡ put d at q
-unfolding put written
-put_over d p q at h l =
-    let t : length (take at d) ≡ at = length-take-le at d h in
-    let k : length q ≡ length p + (length q - length p) = omega arith in
-    let c : drop (length q) (p ++ drop (length p) (drop at d)) ≡ drop (length q) (drop at d) =
-    rw k (drop-append-add p (drop (length p) (drop at d)) (length q - length p) ∙ drop-drop (length q - length p) (length p) (drop at d)) in
-    rw (take_at (take at d) (p ++ drop (length p) (drop at d)) at t, drop_at (take at d) (p ++ drop (length p) (drop at d)) at t, c)
-
 -- a part from `at` to the end that comes back with bs written: the whole has bs put at `at`
 pub lent : (d e : List ℕ) (at : ℕ) (bs : List ℕ) → at ≤ length d
     → e ≡ written (take (length d - at) (drop at d)) bs → put_mid at (length d - at) d e ≡ put d at bs
@@ -86,11 +67,6 @@ paste_turn d out bs at j i r ei room h eo er = rw (ei, eo, er) (paste-suc d at b
 pub paste_done : (d out bs : List ℕ) (at j : ℕ) → j ≡ length bs → out ≡ paste d at bs j → out ≡ put d at bs
 unfolding put written
 paste_done d out bs at j e eo = rw (eo, e, take_all (length bs) bs (omega arith), ← drop-drop (length bs) at d) (append_assoc (take at d) bs (drop (length bs) (drop at d)))
-
--- the same for k equal elements, spaces or zeros, and for the columns of a number from one on
-pub repeat_turn : (d out : List ℕ) (x k at j i : ℕ) → i ≡ at + j → at + k ≤ length d → j < k → out ≡ paste d at (replicate k x) j → set out i x ≡ paste d at (replicate k x) (j + 1)
-repeat_turn d out x k at j i ei room h eo =
-    rw (add-one j) (paste_turn d out (replicate k x) at j i x ei (omega arith) (rw length-replicate h) eo (sym (get_or-replicate k j x 0 h)))
 
 pub columns_none : (d bs : List ℕ) (first : ℕ) → d ≡ paste d first bs (first - first)
 columns_none d bs first = let e : first - first ≡ 0 = omega arith in rw e (paste-zero d first bs)

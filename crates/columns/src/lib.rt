@@ -6,7 +6,7 @@ ghost use Rattle.columns.specs.Fields.{place_value, column_of, columns, field_at
 ghost use Rattle.columns.specs.inner.Scans.{Blank, opening, fitting};
 ghost use Rattle.columns.specs.Writing.{written, put};
 
-// What each column is worth, the last column first.
+// What each column is worth, the last column first: the rules name an array of places.
 const PLACES: [u32; 6] = [1, 10, 100, 1000, 10000, 100000];
 
 // The columns in front of the last two. Most numbers are below 100 and have spaces there, which are read and written at once.
@@ -88,10 +88,12 @@ impl Cursor {
         if s.len() < 6 || s.len() - 6 < at {
             return None;
         }
-        match &s[at..] {
-            [b' ', b' ', b' ', b' ', ..] => scan(s, at, FRONT),
-            [b' ', b' ', ..] => scan(s, at, 2),
-            _ => scan(s, at, 0),
+        if s[at..].starts_with(b"    ") {
+            scan(s, at, FRONT)
+        } else if s[at..].starts_with(b"  ") {
+            scan(s, at, 2)
+        } else {
+            scan(s, at, 0)
         }
     }
 }

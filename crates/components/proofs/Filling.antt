@@ -1,30 +1,28 @@
 -- The table of parts, column after column. A reticulation's index is what is counted at its component's top before it, so one pass over the nodes gives
 -- the counts and the indices.
 -- Assumes nothing.
-use mathlib.Core.Path.{◌≡◌, refl, sym, ◌∙◌, ap}
-use mathlib.Core.Logic.{◌≢◌}
-use mathlib.Core.Bool.{Bool, true, false, ◌&&◌, and-true}
-use mathlib.Core.List.{List}
-use Prim.Native.Nat.{ℕ, zero, suc, ◌+◌, ◌-◌, ◌≤◌, ◌<◌}
-use lib.ListN.{length}
-use native.Mathlib.Omega.{arith}
+use Rattle.std.proofs.Common.{◌≡◌, ◌≢◌, Bool, true, false, ◌&&◌, List, length, set, ℕ, zero, suc, ◌+◌, ◌-◌, ◌≤◌, refl, sym, ap, ◌∙◌, arith}
+use mathlib.Core.Bool.{and-true}
+use Rattle.std.proofs.Math.Seq.{get_or-set_same, get_or-set_other}
 use Rattle.finite.specs.Tests.{under, tally}
 use Rattle.finite.specs.Range.{count, any}
+use Rattle.finite.specs.Tables.{at, zeros, filled}
 use Rattle.finite.proofs.Cases.{by_eq, by_bool}
 use Rattle.finite.proofs.Tests.{is_under, not_under, and_no_r}
 use Rattle.finite.proofs.Sum.{sum_zero_range, sum_suc}
 use Rattle.finite.proofs.Count.{count_same, count_le, count_start, count_turn}
 use Rattle.finite.proofs.Every.{some_same}
-use Rattle.tables.specs.Columns.{entry, written, column, blank, Clear}
-use Rattle.tables.proofs.Columns.{long, write_here, write_row, write_column, column_in, column_out, column_zero, column_keeps, column_clear, blank_clear}
+use Rattle.finite.proofs.Tables.{filled_in, filled_out, filled_zero, zeros_long, zeros_at}
 use Rattle.topology.specs.Networks.{Network, Node, Sound, Reticulation}
 use Rattle.topology.specs.Components.{component, member_of, reticulation_count, index_of}
 use Rattle.topology.specs.Lines.{network}
 use Rattle.topology.proofs.Lines.{rank_none, rank_is as lines-rank}
 use Rattle.topology.proofs.Above.{reticulation_node}
 use Rattle.topology.proofs.Components.{component_node, member_is, is_member}
-use Rattle.layout.specs.Lines.{secondary, nodes_in}
-use Rattle.layout.specs.inner.Parts.{rank_column, rank, top_column, top, reticulation_count_column, index_column, index, Parted}
+use Rattle.layout.specs.declared.lines.NodeColumns.{NodeColumns}
+use Rattle.layout.specs.declared.parts.Parts.{Parts as Table}
+use Rattle.layout.specs.Lines.{nodes_in}
+use Rattle.layout.specs.inner.Parts.{top, index, Bare, Parted}
 use Rattle.layout.specs.inner.Parts as Parts
 use Rattle.layout.proofs.Numbered.{secondary_in, stamp_in}
 use Rattle.components.specs.Refusals.{crowded_at, refusal11}
@@ -61,35 +59,50 @@ module _ (v : ℕ) (f : ℕ → Bool) (low : 1 ≤ v) where
   count_miss : f v ≡ false → count (v - 1) f ≡ count v f
   count_miss t = let e : count (v - 1) f + 0 ≡ count v f = rw last at (count_turn f (v - 1) _ 0 refl (rw (last, t))) in omega arith
 
+-- columns that are bare, and one written at a node
+pub bare_zeros : (n : ℕ) → Bare n zeros
+bare_zeros n = record { none = zeros_at 0; past = λ v _. zeros_at v }
+
+pub bare_filled : (n : ℕ) (f : ℕ → ℕ) → Bare n (filled n zeros f)
+bare_filled n f = record { none = filled_zero n zeros f ∙ zeros_at 0; past = λ v l. filled_out n zeros f v l ∙ zeros_at v }
+
+bare_set : (n : ℕ) (l : List ℕ) (v x : ℕ) → 1 ≤ v → v ≤ n → Bare n l → Bare n (set l v x)
+bare_set n l v x a b B = record {
+  none = get_or-set_other l v 0 x 0 (λ e. omega arith) ∙ B.none;
+  past = λ w q. get_or-set_other l v w x 0 (λ e. omega arith) ∙ B.past w q;
+}
+
 module _ {N : Network} (ok : Sound N) where
   open N use {size}
 
   not_member : (c r : ℕ) → (Reticulation N r → component N r ≢ c) → member_of N c r ≡ false
   not_member c r h = by_bool (member_of N c r) (λ t. let m = member_is N c r t in absurd (h m.0 m.1)) (λ t. t)
 
-  pub parted_end : {t : List ℕ} {v : ℕ} → PartedTo N v t → v ≤ size → size ≤ v → Parted N t
+  pub parted_end : {t : Table} {v : ℕ} → PartedTo N v t → v ≤ size → size ≤ v → Parted N t
   unfolding reticulation_count
   parted_end {t} {v} P a b = let e : v ≡ size = omega arith in record {
-    long = P.long;
     ranks = P.ranks;
     tops = P.tops;
     counts = λ c k. P.counts c k ∙ ap (λ (m : ℕ). count m (member_of N c)) e;
     indices = λ r d. P.indices r d (omega (arith, reticulation_node N ok r d));
-    none = P.none;
-    past = P.past;
+    bare_ranks = P.bare_ranks;
+    bare_tops = P.bare_tops;
+    bare_counts = P.bare_counts;
+    bare_indices = P.bare_indices;
   }
 
-  module _ {t : List ℕ} {v : ℕ} (low : 1 ≤ v) (P : PartedTo N (v - 1) t) where
+  module _ {t : Table} {v : ℕ} (low : 1 ≤ v) (P : PartedTo N (v - 1) t) where
     -- a node that is no reticulation is not counted
     pub parted_skip : N.secondary v ≡ 0 → PartedTo N v t
     parted_skip e = record {
-      long = P.long;
       ranks = P.ranks;
       tops = P.tops;
       counts = λ c k. P.counts c k ∙ count_miss v (member_of N c) low (not_member c v (λ d. absurd (d e)));
       indices = λ r d u. by_eq r v (λ q. absurd (d (rw q e))) (λ q. P.indices r d (omega arith));
-      none = P.none;
-      past = P.past;
+      bare_ranks = P.bare_ranks;
+      bare_tops = P.bare_tops;
+      bare_counts = P.bare_counts;
+      bare_indices = P.bare_indices;
     }
 
     module _ (few : size ≤ 127) (d : Reticulation N v) where
@@ -118,52 +131,33 @@ module _ {N : Network} (ok : Sound N) where
           index_is = counted ∙ rw top_is (sym (count_before size v (member_of N (component N v)) low node.high))
 
           -- a reticulation is counted at its top, and has its index
-          module _ {s u : List ℕ} (es : s ≡ written t index_column v k) (eu : u ≡ written s reticulation_count_column c (k + 1)) where
-            lv : v < 128
-            lv = omega (arith, node.high)
-
-            lc : c < 128
-            lc = omega (arith, top_fits)
-
-            s_long : length s ≡ 512
-            s_long = rw es (long t index_column v k lv ∙ P.long)
-
-            u_long : length u ≡ 512
-            u_long = rw eu (long s reticulation_count_column c (k + 1) lc ∙ s_long)
-
-            others : (j w : ℕ) → j ≢ index_column → j ≢ reticulation_count_column → entry u j w ≡ entry t j w
-            others j w a b = rw eu (write_column s reticulation_count_column c (k + 1) lc j w b ∙ rw es (write_column t index_column v k lv j w a))
-
-            rows : (j w : ℕ) → w ≢ v → w ≢ c → entry u j w ≡ entry t j w
-            rows j w a b = rw eu (write_row s reticulation_count_column c (k + 1) lc j w b ∙ rw es (write_row t index_column v k lv j w a))
-
-            count_of : (w : ℕ) → Node N w → Parts.reticulation_count u w ≡ count v (member_of N w)
-            count_of w q = by_eq w c
-                (λ e. rw (e, eu) (write_here s reticulation_count_column c (k + 1) lc (omega (arith, s_long)) ∙ ap (λ (m : ℕ). m + 1) counted
+          module _ (long_counts : length t.reticulation_count ≡ 128) (long_indices : length t.index ≡ 128) where
+            counts_next : (w : ℕ) → Node N w → at (set t.reticulation_count c (k + 1)) w ≡ count v (member_of N w)
+            counts_next w q = by_eq w c
+                (λ e. rw e (get_or-set_same t.reticulation_count c (k + 1) 0 (omega (arith, top_fits, long_counts)) ∙ ap (λ (m : ℕ). m + 1) counted
                 ∙ count_hit v (member_of N c) low (is_member N c v d (sym top_is))))
-                (λ a. ap (λ (y : List ℕ). Parts.reticulation_count y w) eu ∙ write_row s reticulation_count_column c (k + 1) lc reticulation_count_column w a
-                ∙ ap (λ (y : List ℕ). Parts.reticulation_count y w) es ∙ write_column t index_column v k lv reticulation_count_column w (λ e. omega arith)
-                ∙ P.counts w q ∙ count_miss v (member_of N w) low (not_member w v (λ _ e. a (sym e ∙ sym top_is))))
+                (λ a. get_or-set_other t.reticulation_count c w (k + 1) 0 a ∙ P.counts w q
+                ∙ count_miss v (member_of N w) low (not_member w v (λ _ e. a (sym e ∙ sym top_is))))
 
-            index_of_lem : (r : ℕ) → Reticulation N r → r ≤ v → index u r ≡ index_of N r
-            index_of_lem r dr l = ap (λ (y : List ℕ). index y r) eu ∙ write_column s reticulation_count_column c (k + 1) lc index_column r (λ e. omega arith)
-                ∙ ap (λ (y : List ℕ). index y r) es
-                ∙ by_eq r v (λ e. rw e (write_here t index_column v k lv (omega (arith, P.long, lv)) ∙ index_is))
-                (λ a. write_row t index_column v k lv index_column r a ∙ P.indices r dr (omega arith))
+            indices_next : (r : ℕ) → Reticulation N r → r ≤ v → at (set t.index v k) r ≡ index_of N r
+            indices_next r dr l = by_eq r v
+                (λ e. rw e (get_or-set_same t.index v k 0 (omega (arith, node.high, long_indices)) ∙ index_is))
+                (λ a. get_or-set_other t.index v r k 0 a ∙ P.indices r dr (omega arith))
 
-            pub parted_next : PartedTo N v u
+            pub parted_next : PartedTo N v (record { rank = t.rank; top = t.top; reticulation_count = set t.reticulation_count c (k + 1); index = set t.index v k })
             parted_next = record {
-              long = u_long;
-              ranks = λ w l. others rank_column w (λ e. omega arith) (λ e. omega arith) ∙ P.ranks w l;
-              tops = λ w q. others top_column w (λ e. omega arith) (λ e. omega arith) ∙ P.tops w q;
-              counts = count_of;
-              indices = index_of_lem;
-              none = λ j l. rows j 0 (λ e. omega arith) (λ e. omega (arith, top_node.low)) ∙ P.none j l;
-              past = λ j w l q. rows j w (λ e. omega (arith, node.high)) (λ e. omega (arith, top_node.high)) ∙ P.past j w l q;
+              ranks = P.ranks;
+              tops = P.tops;
+              counts = counts_next;
+              indices = indices_next;
+              bare_ranks = P.bare_ranks;
+              bare_tops = P.bare_tops;
+              bare_counts = bare_set size t.reticulation_count c (k + 1) top_node.low top_node.high P.bare_counts;
+              bare_indices = bare_set size t.index v k node.low node.high P.bare_indices;
             }
 
 -- the columns of ranks and tops
-module _ (n : ℕ) (l : List ℕ) (few : n ≤ 127) where
+module _ (n : ℕ) (l : NodeColumns) (few : n ≤ 127) where
   abbrev N : Network
   N = network (nodes_in n l)
 
@@ -171,55 +165,30 @@ module _ (n : ℕ) (l : List ℕ) (few : n ≤ 127) where
   unfolding rank_at
   rank_is v a b = rw (lines-rank (nodes_in n l) v (λ e. omega arith), secondary_in n l v a b, stamp_in n l v a b)
 
-  abbrev first : List ℕ
-  first = column rank_column n blank (rank_at l)
+  ranks_in : (v : ℕ) → v ≤ n → at (filled n zeros (rank_at l)) v ≡ N.rank v
+  ranks_in v u = by_eq v 0
+      (λ e. rw e (filled_zero n zeros (rank_at l) ∙ zeros_at 0 ∙ sym (rank_none (nodes_in n l))))
+      (λ d. filled_in n zeros (rank_at l) v (omega arith) u (omega (arith, zeros_long)) ∙ rank_is v (omega arith) u)
 
-  abbrev second : List ℕ
-  second = column top_column n first (component N)
-
-  low : n < 128
-  low = omega arith
-
-  clear : (k : ℕ) → k < 4 → Clear k blank
-  clear k u = blank_clear k u
-
-  first_clear : (k : ℕ) → k < 4 → k ≢ rank_column → Clear k first
-  first_clear k u d = column_clear rank_column blank (rank_at l) n k low d (clear k u)
-
-  first_ranks : (v : ℕ) → v ≤ n → rank first v ≡ N.rank v
-  first_ranks v u = by_eq v 0
-      (λ e. rw e (column_zero rank_column blank (rank_at l) n rank_column low ∙ (clear rank_column (omega arith)).none 0 ∙ sym (rank_none (nodes_in n l))))
-      (λ d. column_in rank_column blank (rank_at l) n v low (omega arith) u (omega (arith, (clear rank_column (omega arith)).long)) ∙ rank_is v (omega arith) u)
-
-  second_clear : (k : ℕ) → k < 4 → k ≢ rank_column → k ≢ top_column → Clear k second
-  second_clear k u d e = column_clear top_column first (component N) n k low e (first_clear k u d)
-
-  none : (k : ℕ) → k < 4 → entry second k 0 ≡ 0
-  none k u = column_zero top_column first (component N) n k low ∙ column_zero rank_column blank (rank_at l) n k low ∙ (clear k u).none 0
-
-  past : (k v : ℕ) → n < v → k < 4 → entry second k v ≡ 0
-  past k v q u = column_out top_column first (component N) n v k low q ∙ column_out rank_column blank (rank_at l) n v k low q ∙ (clear k u).none v
-
-  pub ranked : (t s : List ℕ) → t ≡ blank → s ≡ column rank_column n t (rank_at l) → Ranked N s
+  pub ranked : (r : List ℕ) → r ≡ filled n zeros (rank_at l) → Ranked N r
   unfolding network nodes_in
-  ranked t s et es = rw (es, et) (record { ranks = first_ranks })
+  ranked r e = rw e (record { ranks = ranks_in })
 
-  started : Sound N → PartedTo N 0 second
+  pub parted_start : (r s : List ℕ) → r ≡ filled n zeros (rank_at l) → s ≡ filled n zeros (component N) → Sound N
+      → PartedTo N 0 (record { rank = r; top = s; reticulation_count = zeros; index = zeros })
   unfolding network nodes_in
-  started ok = record {
-    long = (second_clear index_column (omega arith) (λ e. omega arith) (λ e. omega arith)).long;
-    ranks = λ v u. column_keeps top_column first (component N) n v rank_column low (λ e. omega arith) ∙ first_ranks v u;
-    tops = λ v k. column_in top_column first (component N) n v low k.low k.high (omega (arith, (first_clear top_column (omega arith) (λ e. omega arith)).long));
-    counts = λ c k. (second_clear reticulation_count_column (omega arith) (λ e. omega arith) (λ e. omega arith)).none c ∙ count_start (member_of N c);
+  parted_start r s er es ok = rw (er, es) (record {
+    ranks = ranks_in;
+    tops = λ v k. filled_in n zeros (component N) v k.low k.high (omega (arith, zeros_long));
+    counts = λ c k. zeros_at c ∙ count_start (member_of N c);
     indices = λ r d u. absurd (omega (arith, (reticulation_node N ok r d).low));
-    none = none;
-    past = past;
-  }
+    bare_ranks = bare_filled n (rank_at l);
+    bare_tops = bare_filled n (component N);
+    bare_counts = bare_zeros n;
+    bare_indices = bare_zeros n;
+  })
 
-  pub parted_start : (t s u : List ℕ) → t ≡ blank → s ≡ column rank_column n t (rank_at l) → u ≡ column top_column n s (component N) → Sound N → PartedTo N 0 u
-  parted_start t s u et es eu ok = rw (eu, es, et) (started ok)
-
-  pub parted_done : (t : List ℕ) (v : ℕ) → Sound N → v ≤ n → n ≤ v → PartedTo N v t → Parted N t
+  pub parted_done : (t : Table) (v : ℕ) → Sound N → v ≤ n → n ≤ v → PartedTo N v t → Parted N t
   unfolding network nodes_in
   parted_done t v ok a b P = parted_end ok P a b
 
@@ -228,29 +197,32 @@ module _ (n : ℕ) (l : List ℕ) (few : n ≤ 127) where
   size_few = few
 
   -- node v with the secondary parent x, where the nodes below it are counted in t
-  module _ (ok : Sound N) (v : ℕ) (low : 1 ≤ v) (high : v ≤ n) (t : List ℕ) (P : PartedTo N (v - 1) t) {x : ℕ} (ex : x ≡ secondary l v) where
-    parent_is : N.secondary v ≡ x
+  module _ (ok : Sound N) (v : ℕ) (low : 1 ≤ v) (high : v ≤ n) (t : Table) (P : PartedTo N (v - 1) t) where
+    pub node_skip : at l.secondary v ≡ 0 → PartedTo N v t
     unfolding network
-    parent_is = secondary_in n l v low high ∙ sym ex
+    node_skip z = parted_skip ok low P (secondary_in n l v low high ∙ z)
 
-    pub node_skip : x ≡ 0 → PartedTo N v t
-    node_skip z = parted_skip ok low P (parent_is ∙ z)
-
-    module _ (d : x ≡ 0 → ⊥) {c : ℕ} (ec : c ≡ top t v) where
+    module _ (d : at l.secondary v ≡ 0 → ⊥) where
       some : Reticulation N v
-      some z = d (sym parent_is ∙ z)
+      unfolding network
+      some z = d (sym (secondary_in n l v low high) ∙ z)
 
-      pub node_top : c ≤ 127
-      node_top = top_fits ok low P size_few some ec
+      pub node_top : top t v ≤ 127
+      node_top = top_fits ok low P size_few some refl
 
-      module _ {k : ℕ} (ek : k ≡ Parts.reticulation_count t c) where
-        pub node_count : k ≤ 127
-        node_count = count_fits ok low P size_few some ec ek
+      pub node_count : Parts.reticulation_count t (top t v) ≤ 127
+      node_count = count_fits ok low P size_few some refl refl
 
-        pub node_next : {s u : List ℕ} → s ≡ written t index_column v k → u ≡ written s reticulation_count_column c (k + 1) → PartedTo N v u
-        node_next es eu = parted_next ok low P size_few some ec ek es eu
+      pub node_next : length t.reticulation_count ≡ 128 → length t.index ≡ 128
+          → PartedTo N v (record {
+            rank = t.rank;
+            top = t.top;
+            reticulation_count = set t.reticulation_count (top t v) (Parts.reticulation_count t (top t v) + 1);
+            index = set t.index v (Parts.reticulation_count t (top t v));
+          })
+      node_next = parted_next ok low P size_few some refl refl
 
   -- 11 by the counts at the tops
-  pub crowded_read : (t : List ℕ) → Parted N t → any n (λ v. under 8 (Parts.reticulation_count t v)) ≡ refusal11 N
+  pub crowded_read : (t : Table) → Parted N t → any n (λ v. under 8 (Parts.reticulation_count t v)) ≡ refusal11 N
   unfolding refusal11 crowded_at network nodes_in
   crowded_read t P = some_same n _ _ (λ v a b. ap (under 8) (P.counts v (record { low = a; high = b })))

@@ -1,11 +1,7 @@
 -- Refusal 11's test says what 01 says: the components of 01 are the classes of `Linked`, and a class goes by its top. So where the test fails no
 -- component has more than 8 reticulations.
 -- Assumes nothing.
-use mathlib.Core.Path.{◌≡◌, sym, ◌∙◌}
-use mathlib.Core.Logic.{◌↔◌}
-use mathlib.Core.Bool.{Bool, true, false}
-use Prim.Native.Nat.{ℕ, ◌≤◌, ◌<◌}
-use native.Mathlib.Omega.{arith}
+use Rattle.std.proofs.Common.{◌≡◌, sym, ◌∙◌, ◌↔◌, Bool, true, false, ℕ, ◌≤◌, ◌<◌, arith}
 use Rattle.finite.specs.Range.{count}
 use Rattle.finite.specs.Refusals.{verdict, AllTell, no_more, one_more}
 use Rattle.finite.proofs.Cases.{by_less, by_bool, clash}

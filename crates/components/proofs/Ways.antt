@@ -1,22 +1,16 @@
 -- The way between two nodes of the principal tree, climbed from the node of larger rank, is what is above just one of them (`between_left`); the nodes
 -- on the ways between the two ends of the secondary arcs are those that are no tops (`ways_are`).
 -- Assumes nothing.
-use mathlib.Core.Path.{◌≡◌, refl, sym, ◌∙◌, ap}
-use mathlib.Core.Logic.{◌≢◌}
-use mathlib.Core.Bool.{Bool, true, false, not, ◌||◌, beq}
-use mathlib.Core.List.{List}
-use Prim.Native.Nat.{ℕ, suc, ◌+◌, ◌-◌, ◌≤◌, ◌<◌}
-use lib.ListN.{length, set, length-set}
-use lib.Seq.{get_or-set_same, get_or-set_other}
-use native.Mathlib.Numerals.{add-one}
-use native.Mathlib.Omega.{arith}
+use Rattle.std.proofs.Common.{◌≡◌, ◌≢◌, Bool, true, false, not, ◌||◌, List, length, set, ℕ, zero, suc, ◌+◌, ◌-◌, ◌≤◌, ◌<◌, refl, sym, ap, ◌∙◌, arith, add-one}
+use Rattle.std.specs.Bool.{beq}
+use Rattle.std.proofs.Math.ListN.{replicate, length-set, length-replicate}
+use Rattle.std.proofs.Math.Seq.{get_or-set_same, get_or-set_other}
 use Rattle.finite.specs.Tests.{same}
 use Rattle.finite.specs.Range.{any}
-use Rattle.finite.specs.Tables.{at, zeros}
+use Rattle.finite.specs.Tables.{at, holds}
 use Rattle.finite.proofs.Cases.{by_bool, by_eq, clash}
-use Rattle.finite.proofs.Tests.{is_same, not_same, is_beq, test_iff, or_yes_r, not_true, not_false, not_yes}
+use Rattle.finite.proofs.Tests.{is_same, not_same, is_beq, test_iff, or_yes_r, not_true, not_false, not_yes, not_no}
 use Rattle.finite.proofs.Every.{some_at, is_every, not_some}
-use Rattle.finite.proofs.Tables.{zeros_long, zeros_at}
 use Rattle.topology.specs.Networks.{Network, Node, Sound, Reticulation, is_reticulation}
 use Rattle.topology.specs.Switchings.{all_principal, above}
 use Rattle.topology.specs.Components.{is_top, component}
@@ -24,17 +18,16 @@ use Rattle.topology.specs.Lines.{network}
 use Rattle.topology.proofs.Climbing.{low_some}
 use Rattle.topology.proofs.Above.{node_principal, fall_principal, falls_principal, above_self, above_low, tree_not, reticulation_is, is_reticulation_lem}
 use Rattle.topology.proofs.Components.{component_top, component_up, top_root, top_reticulation}
-use Rattle.layout.specs.Lines.{principal, secondary, nodes_in}
-use Rattle.layout.specs.inner.Parts.{rank}
+use Rattle.layout.specs.declared.lines.NodeColumns.{NodeColumns}
+use Rattle.layout.specs.Lines.{nodes_in}
 use Rattle.layout.proofs.Numbered.{principal_in, secondary_in}
-use Rattle.components.specs.inner.Ways.{Ranked, between, bridged, marked, MarkedWay, MarkedWays, NonTops}
+use Rattle.components.specs.inner.Ways.{Ranked, between, bridged, MarkedWay, MarkedWays, NonTops}
 
 -- marking a node
-pub marked_set : (m : List ℕ) (a : ℕ) → a < length m → (w : ℕ) → marked (set m a 1) w ≡ (same w a || marked m w)
-unfolding marked
+pub marked_set : (m : List Bool) (a : ℕ) → a < length m → (w : ℕ) → holds (set m a true) w ≡ (same w a || holds m w)
 marked_set m a l w = by_eq w a
-    (λ e. rw (e, get_or-set_same m a 1 0 l, is_same {m = a} refl, not_same {m = 1} {n = 0} (λ q. omega arith)))
-    (λ d. rw (get_or-set_other m a w 1 0 d, not_same d))
+    (λ e. rw (e, get_or-set_same m a true false l, is_same {m = a} refl))
+    (λ d. rw (get_or-set_other m a w true false d, not_same d))
 
 -- a reticulation whose two ends are both below w or both not
 plain_way : (N : Network) (w r : ℕ) → (Reticulation N r → above N all_principal w r ≡ above N all_principal w (N.secondary r)) → bridged N w r ≡ false
@@ -92,16 +85,19 @@ module _ (N : Network) (ok : Sound N) where
       crossed_none q = top_by N w (λ r l u d. way_plain N w r d (not_some size (bridged N w) q r l u))
 
 -- climbing from a and b, with what is marked: what was to be marked is marked or still to come
-pub record OnWay (N : Network) (before : List ℕ) (x y : ℕ) (marks : List ℕ) (a b : ℕ) : Type 0 where
+pub record OnWay (N : Network) (before : List Bool) (x y : ℕ) (marks : List Bool) (a b : ℕ) : Type 0 where
   pub long : length marks ≡ 128
-  pub at_each : (w : ℕ) → (marked marks w || between N a b w) ≡ (marked before w || between N x y w)
+  pub at_each : (w : ℕ) → (holds marks w || between N a b w) ≡ (holds before w || between N x y w)
 
-module _ (n : ℕ) (l t : List ℕ) (ok : Sound (network (nodes_in n l))) (R : Ranked (network (nodes_in n l)) t) where
+module _ (n : ℕ) (l : NodeColumns) (t : List ℕ) (ok : Sound (network (nodes_in n l))) (R : Ranked (network (nodes_in n l)) t) where
   abbrev N : Network
   N = network (nodes_in n l)
 
   -- a step from the node of larger rank
-  module _ (a b ha hb p : ℕ) (ia : a ≤ n) (ib : b ≤ n) (ea : ha ≡ rank t a) (eb : hb ≡ rank t b) (u : hb ≤ ha) (d : a ≢ b) (e : p ≡ principal l a) where
+  module _ (a b : ℕ) (ia : a ≤ n) (ib : b ≤ n) (u : at t b ≤ at t a) (d : a ≢ b) where
+    abbrev p : ℕ
+    p = at l.principal a
+
     low : N.rank b ≤ N.rank a
     unfolding network nodes_in
     low = omega (arith, R.ranks a ia, R.ranks b ib)
@@ -111,7 +107,7 @@ module _ (n : ℕ) (l t : List ℕ) (ok : Sound (network (nodes_in n l))) (R : R
 
     step_is : p ≡ N.principal a
     unfolding network
-    step_is = let z = some_node in e ∙ sym (principal_in n l a (omega arith) ia)
+    step_is = let z = some_node in sym (principal_in n l a (omega arith) ia)
 
     step_in : p ≤ n
     unfolding network nodes_in
@@ -120,45 +116,45 @@ module _ (n : ℕ) (l t : List ℕ) (ok : Sound (network (nodes_in n l))) (R : R
     step_falls : N.rank p < N.rank a
     step_falls = rw step_is (fall_principal N ok a some_node)
 
-    step_marks : (m : List ℕ) → a < length m → (w : ℕ) → (marked (set m a 1) w || between N p b w) ≡ (marked m w || between N a b w)
-    step_marks m s w = rw (marked_set m a s w, between_left N ok a b w low d, step_is) (shuffle (same w a) (marked m w) (between N (N.principal a) b w))
+    step_marks : (m : List Bool) → a < length m → (w : ℕ) → (holds (set m a true) w || between N p b w) ≡ (holds m w || between N a b w)
+    step_marks m s w = rw (marked_set m a s w, between_left N ok a b w low d, step_is) (shuffle (same w a) (holds m w) (between N (N.principal a) b w))
 
-  module _ (before : List ℕ) (x y : ℕ) where
+  module _ (before : List Bool) (x y : ℕ) where
     pub way_start : length before ≡ 128 → OnWay N before x y before x y
     way_start q = record { long = q; at_each = λ w. refl }
 
-    pub way_end : (m : List ℕ) (a b : ℕ) → OnWay N before x y m a b → a ≡ b → MarkedWay N before m x y
-    way_end m a b o e = record { long = o.long; at_each = λ w. sym (or_false_r (marked m w) (between N a b w) (rw e (between_same N ok b w))) ∙ o.at_each w }
+    pub way_end : (m : List Bool) (a b : ℕ) → OnWay N before x y m a b → a ≡ b → MarkedWay N before m x y
+    way_end m a b o e = record { long = o.long; at_each = λ w. sym (or_false_r (holds m w) (between N a b w) (rw e (between_same N ok b w))) ∙ o.at_each w }
 
-    -- the climber of larger rank goes on, to its principal parent p
-    module _ (m : List ℕ) (a b : ℕ) (i : (a ≤ n) × (b ≤ n) × OnWay N before x y m a b) {ha hb p : ℕ} (ea : ha ≡ rank t a) (eb : hb ≡ rank t b) (d : a ≡ b → ⊥) where
-      module _ (u : hb ≤ ha) (e : p ≡ principal l a) where
-        pub kept_left : a ≤ 127 → (p ≤ n) × (b ≤ n) × OnWay N before x y (set m a 1) p b
+    -- the climber of larger rank goes on, to its principal parent
+    module _ (m : List Bool) (a b : ℕ) (i : (a ≤ n) × (b ≤ n) × OnWay N before x y m a b) (d : a ≡ b → ⊥) where
+      module _ (u : at t b ≤ at t a) where
+        pub kept_left : a ≤ 127 → (at l.principal a ≤ n) × (b ≤ n) × OnWay N before x y (set m a true) (at l.principal a) b
         kept_left s = (
-          step_in a b ha hb p i.0 i.1 ea eb u d e,
+          step_in a b i.0 i.1 u d,
           i.1,
-          record { long = length-set m a 1 ∙ i.2.long; at_each = λ w. step_marks a b ha hb p i.0 i.1 ea eb u d e m (omega (arith, i.2.long)) w ∙ i.2.at_each w },
+          record { long = length-set m a true ∙ i.2.long; at_each = λ w. step_marks a b i.0 i.1 u d m (omega (arith, i.2.long)) w ∙ i.2.at_each w },
         )
 
-        pub less_left : N.rank p + N.rank b < N.rank a + N.rank b
-        less_left = omega (arith, step_falls a b ha hb p i.0 i.1 ea eb u d e)
+        pub less_left : N.rank (at l.principal a) + N.rank b < N.rank a + N.rank b
+        less_left = omega (arith, step_falls a b i.0 i.1 u d)
 
-      module _ (u : ha < hb) (e : p ≡ principal l b) where
-        pub kept_right : b ≤ 127 → (a ≤ n) × (p ≤ n) × OnWay N before x y (set m b 1) a p
+      module _ (u : at t a < at t b) where
+        pub kept_right : b ≤ 127 → (a ≤ n) × (at l.principal b ≤ n) × OnWay N before x y (set m b true) a (at l.principal b)
         kept_right s = (
           i.0,
-          step_in b a hb ha p i.1 i.0 eb ea (omega arith) (λ q. d (sym q)) e,
+          step_in b a i.1 i.0 (omega arith) (λ q. d (sym q)),
           record {
-            long = length-set m b 1 ∙ i.2.long;
-            at_each = λ w. ap (λ (q : Bool). marked (set m b 1) w || q) (between_sym N ok a p w)
-                ∙ step_marks b a hb ha p i.1 i.0 eb ea (omega arith) (λ q. d (sym q)) e m (omega (arith, i.2.long)) w
-                ∙ ap (λ (q : Bool). marked m w || q) (between_sym N ok b a w)
+            long = length-set m b true ∙ i.2.long;
+            at_each = λ w. ap (λ (q : Bool). holds (set m b true) w || q) (between_sym N ok a (at l.principal b) w)
+                ∙ step_marks b a i.1 i.0 (omega arith) (λ q. d (sym q)) m (omega (arith, i.2.long)) w
+                ∙ ap (λ (q : Bool). holds m w || q) (between_sym N ok b a w)
                 ∙ i.2.at_each w;
           },
         )
 
-        pub less_right : N.rank a + N.rank p < N.rank a + N.rank b
-        less_right = omega (arith, step_falls b a hb ha p i.1 i.0 eb ea (omega arith) (λ q. d (sym q)) e)
+        pub less_right : N.rank a + N.rank (at l.principal b) < N.rank a + N.rank b
+        less_right = omega (arith, step_falls b a i.1 i.0 (omega arith) (λ q. d (sym q)))
 
 -- one reticulation more, and all
 some_next : (k : ℕ) (f : ℕ → Bool) → any (k + 1) f ≡ (any k f || f (k + 1))
@@ -175,46 +171,51 @@ bridged_is : (N : Network) (w r : ℕ) → N.secondary r ≢ 0 → bridged N w r
 unfolding bridged
 bridged_is N w r d = rw (is_reticulation_lem N r d)
 
-pub ways_none : (N : Network) (marks : List ℕ) → marks ≡ zeros → MarkedWays N marks 0
-unfolding marked any
-ways_none N marks e = record { long = rw e zeros_long; at_each = λ w. rw (e, zeros_at w, is_same {m = 0} refl) }
+none_marked : (k v : ℕ) → holds (replicate k false) v ≡ false
+none_marked zero v = refl
+none_marked (suc k) zero = refl
+none_marked (suc k) (suc v) = none_marked k v
 
-module _ (n : ℕ) (l : List ℕ) where
+pub ways_none : (N : Network) → MarkedWays N (replicate 128 false) 0
+unfolding any
+ways_none N = record { long = length-replicate 128 false; at_each = none_marked 128 }
+
+module _ (n : ℕ) (l : NodeColumns) where
   abbrev M : Network
   M = network (nodes_in n l)
 
-  -- node k with the secondary parent s
-  module _ (k : ℕ) (low : 1 ≤ k) (high : k ≤ n) {s : ℕ} (q : s ≡ secondary l k) where
-    second_is : M.secondary k ≡ s
+  -- node k with its secondary parent
+  module _ (k : ℕ) (low : 1 ≤ k) (high : k ≤ n) where
+    second_is : M.secondary k ≡ at l.secondary k
     unfolding network
-    second_is = secondary_in n l k low high ∙ sym q
+    second_is = secondary_in n l k low high
 
-    pub second_in : Sound M → s ≤ n
+    pub second_in : Sound M → at l.secondary k ≤ n
     unfolding network nodes_in
     second_in ok = rw (← second_is) (ok.in_secondary k (record { low = low; high = high }))
 
     -- where the ways of the reticulations before it are marked
-    module _ (before : List ℕ) (h : MarkedWays M before (k - 1)) where
-      pub ways_plain : s ≡ 0 → MarkedWays M before k
+    module _ (before : List Bool) (h : MarkedWays M before (k - 1)) where
+      pub ways_plain : at l.secondary k ≡ 0 → MarkedWays M before k
       ways_plain z = record {
         long = h.long;
         at_each = λ w. h.at_each w ∙ sym (some_last k (bridged M w) low ∙ or_false_r (any (k - 1) (bridged M w)) (bridged M w k) (bridged_none M w k (second_is ∙ z)));
       }
 
-      pub ways_more : (after : List ℕ) → (s ≡ 0 → ⊥) → MarkedWay M before after k s → MarkedWays M after k
+      pub ways_more : (after : List Bool) → (at l.secondary k ≡ 0 → ⊥) → MarkedWay M before after k (at l.secondary k) → MarkedWays M after k
       ways_more after d m = record {
         long = m.long;
         at_each = λ w. m.at_each w ∙ rw (h.at_each w, ← second_is, ← bridged_is M w k (λ z. d (sym second_is ∙ z))) (sym (some_last k (bridged M w) low));
       }
 
   -- the loop is left before its turn at v
-  pub ways_end : (marks : List ℕ) (v : ℕ) → Sound M → v ≤ n + 1 → n < v → MarkedWays M marks (v - 1) → NonTops M marks
+  pub ways_end : (marks : List Bool) (v : ℕ) → Sound M → v ≤ n + 1 → n < v → MarkedWays M marks (v - 1) → NonTops M marks
   unfolding network nodes_in
   ways_end marks v ok a b h = let e : v - 1 ≡ n = omega arith in
       record { at_each = λ w k. ways_are M ok w k ∙ ap not (sym ((rw e at h).at_each w)) }
 
 -- going up from a node that is no top
-module _ (n : ℕ) (l marks : List ℕ) (ok : Sound (network (nodes_in n l))) (tops : NonTops (network (nodes_in n l)) marks) where
+module _ (n : ℕ) (l : NodeColumns) (marks : List Bool) (ok : Sound (network (nodes_in n l))) (tops : NonTops (network (nodes_in n l)) marks) where
   abbrev K : Network
   K = network (nodes_in n l)
 
@@ -223,27 +224,24 @@ module _ (n : ℕ) (l marks : List ℕ) (ok : Sound (network (nodes_in n l))) (t
     unfolding network nodes_in
     node = record { low = i.0; high = i.1 }
 
-    pub top_end : at marks a ≡ 0 → a ≡ component K v
-    unfolding marked
-    top_end z = sym (component_top K ok a (tops.at_each a node ∙ rw (is_same z))) ∙ i.2
+    pub top_end : holds marks a ≡ false → a ≡ component K v
+    top_end z = sym (component_top K ok a (tops.at_each a node ∙ not_yes _ z)) ∙ i.2
 
-    -- to its principal parent p
-    module _ {p : ℕ} (e : p ≡ principal l a) where
-      up : p ≡ K.principal a
-      unfolding network
-      up = e ∙ sym (principal_in n l a i.0 i.1)
+    -- to its principal parent
+    up : at l.principal a ≡ K.principal a
+    unfolding network
+    up = sym (principal_in n l a i.0 i.1)
 
-      pub up_less : K.rank p < K.rank a
-      up_less = rw up (fall_principal K ok a (omega (arith, i.0)))
+    pub up_less : K.rank (at l.principal a) < K.rank a
+    up_less = rw up (fall_principal K ok a (omega (arith, i.0)))
 
-      module _ (d : at marks a ≡ 0 → ⊥) where
-        no_top : is_top K a ≡ false
-        unfolding marked
-        no_top = tops.at_each a node ∙ rw (not_same d)
+    module _ (d : holds marks a ≡ true) where
+      no_top : is_top K a ≡ false
+      no_top = tops.at_each a node ∙ not_no _ d
 
-        node_up : Node K (K.principal a)
-        node_up = node_principal K ok a node (λ q. clash (top_root K ok a q) no_top)
+      node_up : Node K (K.principal a)
+      node_up = node_principal K ok a node (λ q. clash (top_root K ok a q) no_top)
 
-        pub up_kept : (1 ≤ p) × (p ≤ n) × (component K p ≡ component K v)
-        unfolding network nodes_in
-        up_kept = (rw up node_up.low, rw up node_up.high, rw up (sym (component_up K ok a no_top) ∙ i.2))
+      pub up_kept : (1 ≤ at l.principal a) × (at l.principal a ≤ n) × (component K (at l.principal a) ≡ component K v)
+      unfolding network nodes_in
+      up_kept = (rw up node_up.low, rw up node_up.high, rw up (sym (component_up K ok a no_top) ∙ i.2))

@@ -1,84 +1,83 @@
 // The tops of the components, by climbs in the principal tree. The climbs end because the network is sound: 6, 7 and 8 have passed.
 ghost use Rattle.std.specs.Prelude.{◌≡◌, ◌-◌, ◌≤◌, length};
-ghost use Rattle.tables.specs.Columns.{column};
+ghost use Rattle.finite.specs.Tables.{filled};
 ghost use Rattle.topology.specs.Networks.{Sound};
 ghost use Rattle.topology.specs.Components.{component};
-ghost use Rattle.topology.specs.Lines.{network};
-ghost use Rattle.layout.specs.Lines.{nodes_in};
-ghost use Rattle.layout.specs.inner.Parts.{top_column};
+ghost use Rattle.layout.specs.Lines.{network_of};
 ghost use Rattle.components.specs.inner.Ways.{Ranked, MarkedWay, MarkedWays, NonTops};
 
-use layout::lines::{Lines, principal, secondary};
-use layout::parts::{Parts, TOP, rank};
-use tables::column::Column;
+use layout::lines::Lines;
+use tables::Column;
+
+// By node, whether it is marked.
+type Marks = [bool; 128];
 
 // Marks the nodes on the way between x and y in the principal tree, the one where they meet left out: the climber of larger rank goes on.
-fn mark_way(n: usize, lines: &Lines, parts: &Parts, marks: &mut Column, x: usize, y: usize)
-    requires limits { (n ≤ 127) × (x ≤ n) × (y ≤ n) × (length marks.old ≡ 128) }
-    requires sound { Sound (network (nodes_in n lines.now)) × Ranked (network (nodes_in n lines.now)) parts.now }
-    ensures { MarkedWay (network (nodes_in n lines.now)) marks.old marks.new x y }
+// (A `while`: two climbs that wait for one another count nothing and are no one iterator.)
+fn mark_way(lines: &Lines, ranks: &Column, marks: &mut Marks, x: usize, y: usize)
+    requires limits { (x ≤ lines.now.header.nodes) × (y ≤ lines.now.header.nodes) × (length marks.old ≡ 128) }
+    requires sound { Sound (network_of lines.now) × Ranked (network_of lines.now) ranks.now }
+    ensures { MarkedWay (network_of lines.now) marks.old marks.new x y }
 {
     let mut a = x;
     let mut b = y;
     while a != b {
-        if rank(parts, a) < rank(parts, b) {
-            marks[b] = 1;
-            b = principal(lines, b);
+        if ranks[a] < ranks[b] {
+            marks[b] = true;
+            b = lines.nodes.principal[b] as usize;
         } else {
-            marks[a] = 1;
-            a = principal(lines, a);
+            marks[a] = true;
+            a = lines.nodes.principal[a] as usize;
         }
     }
 }
 
 // Marks the way between node v and its secondary parent, if it has one.
-fn mark_node(n: usize, lines: &Lines, parts: &Parts, marks: &mut Column, v: usize)
-    requires limits { (n ≤ 127) × (1 ≤ v) × (v ≤ n) }
-    requires sound { Sound (network (nodes_in n lines.now)) × Ranked (network (nodes_in n lines.now)) parts.now }
-    requires marked_ways { MarkedWays (network (nodes_in n lines.now)) marks.old (v - 1) }
-    ensures { MarkedWays (network (nodes_in n lines.now)) marks.new v }
+fn mark_node(lines: &Lines, ranks: &Column, marks: &mut Marks, v: usize)
+    requires limits { (1 ≤ v) × (v ≤ lines.now.header.nodes) }
+    requires sound { Sound (network_of lines.now) × Ranked (network_of lines.now) ranks.now }
+    requires marked_ways { MarkedWays (network_of lines.now) marks.old (v - 1) }
+    ensures { MarkedWays (network_of lines.now) marks.new v }
 {
-    let s = secondary(lines, v);
+    let s = lines.nodes.secondary[v] as usize;
     if s == 0 {
         return;
     }
-    mark_way(n, lines, parts, marks, v, s);
+    mark_way(lines, ranks, marks, v, s);
 }
 
 // The marks of the nodes that are no tops.
 #[tactic(auto, using(crate::proofs::Ways::ways_end))]
-fn non_tops(n: usize, lines: &Lines, parts: &Parts) -> Column
-    requires { (n ≤ 127) × Sound (network (nodes_in n lines.now)) × Ranked (network (nodes_in n lines.now)) parts.now }
-    ensures { NonTops (network (nodes_in n lines.now)) result }
+fn non_tops(lines: &Lines, ranks: &Column) -> Marks
+    requires { Sound (network_of lines.now) × Ranked (network_of lines.now) ranks.now }
+    ensures { NonTops (network_of lines.now) result }
 {
-    let mut marks = [0; 128];
-    for v in 1..=n {
-        mark_node(n, lines, parts, &mut marks, v);
+    let mut marks = [false; 128];
+    for v in 1..=lines.header.nodes {
+        mark_node(lines, ranks, &mut marks, v);
     }
     marks
 }
 
-// The top of v's component: the first node without a mark, going up principal arcs.
-fn top_of(n: usize, lines: &Lines, marks: &Column, v: usize) -> u32
-    requires limits { (n ≤ 127) × (1 ≤ v) × (v ≤ n) }
-    requires sound { Sound (network (nodes_in n lines.now)) × NonTops (network (nodes_in n lines.now)) marks.now }
-    ensures { result ≡ component (network (nodes_in n lines.now)) v }
+// The top of v's component: the first node without a mark, going up principal arcs. (A `while`: it counts nothing, and of an iterator over
+// ancestors it would have to be shown that it ends, as of the loop.)
+fn top_of(lines: &Lines, marks: &Marks, v: usize) -> u32
+    requires limits { (1 ≤ v) × (v ≤ lines.now.header.nodes) }
+    requires sound { Sound (network_of lines.now) × NonTops (network_of lines.now) marks.now }
+    ensures { result ≡ component (network_of lines.now) v }
 {
     let mut a = v;
-    while marks[a] != 0 {
-        a = principal(lines, a);
+    while marks[a] {
+        a = lines.nodes.principal[a] as usize;
     }
     a as u32
 }
 
 // The top of each node's component.
-#[tactic(auto, using(tables::proofs::Columns::column_none, tables::proofs::Columns::column_turn, tables::proofs::Columns::column_done))]
-pub fn tops(n: usize, lines: &Lines, parts: &mut Parts)
-    requires { (n ≤ 127) × Sound (network (nodes_in n lines.now)) × Ranked (network (nodes_in n lines.now)) parts.old }
-    ensures { parts.new ≡ column top_column n parts.old (component (network (nodes_in n lines.now))) }
+pub fn tops(lines: &Lines, ranks: &Column, top: &mut Column)
+    requires { Sound (network_of lines.now) × Ranked (network_of lines.now) ranks.now }
+    ensures { top.new ≡ filled lines.now.header.nodes top.old (component (network_of lines.now)) }
 {
-    let marks = non_tops(n, lines, parts);
-    for v in 1..=n {
-        tables::put(parts, TOP, v, top_of(n, lines, &marks, v));
-    }
+    let marks = non_tops(lines, ranks);
+    tables::fill(lines.header.nodes, |v| top_of(lines, &marks, v), top);
 }

@@ -1,12 +1,7 @@
 -- Bounds for every displayed tree: a gene has no more transfers and losses than there are nodes. Where a fork has two on arcs, fewer than half of the nodes
 -- fork, which bounds the losses of each gene by half the nodes; and fewer than half of the genes duplicate.
 -- Assumes nothing.
-use mathlib.Core.Path.{◌≡◌, refl, ◌∙◌}
-use mathlib.Core.Logic.{◌≢◌}
-use mathlib.Core.Bool.{Bool, true, false, cond, ◌&&◌, not}
-use Prim.Native.Nat.{ℕ, ◌+◌, ◌*◌, ◌≤◌, ◌<◌}
-use native.Mathlib.Nat.{mul-zero, mul-le-mul}
-use native.Mathlib.Omega.{arith}
+use Rattle.std.proofs.Common.{◌≡◌, refl, ◌∙◌, ◌≢◌, Bool, true, false, cond, ◌&&◌, not, ℕ, ◌+◌, ◌*◌, ◌≤◌, ◌<◌, mul-zero, mul-le-mul, arith}
 use Rattle.finite.specs.Tests.{same, tally}
 use Rattle.finite.specs.Range.{count, children}
 use Rattle.finite.proofs.Cases.{by_bool, by_eq}

@@ -1,11 +1,8 @@
 -- The transfers and losses of a gene, for the report: sums over the arcs of a climb from its place to its parent gene's, the last of which decides the loss
 -- at the parent gene's place; and the losses in 01's words, as a count of nodes.
 -- Assumes nothing.
-use mathlib.Core.Path.{◌≡◌, refl, sym, ◌∙◌, ap}
-use mathlib.Core.Logic.{◌≢◌}
-use mathlib.Core.Bool.{Bool, true, false, cond, ◌&&◌, not, and-true, and-false}
-use Prim.Native.Nat.{ℕ, ◌+◌, ◌-◌}
-use native.Mathlib.Omega.{arith}
+use Rattle.std.proofs.Common.{◌≡◌, refl, sym, ◌∙◌, ap, ◌≢◌, Bool, true, false, cond, ◌&&◌, not, ℕ, ◌+◌, ◌-◌, arith}
+use mathlib.Core.Bool.{and-true, and-false}
 use Rattle.finite.specs.Tests.{same, tally}
 use Rattle.finite.specs.Range.{count}
 use Rattle.finite.proofs.Cases.{by_bool, by_eq, clash}

@@ -1,11 +1,7 @@
 -- The last arc of a climb from a up to b is the one by which the way from b down to a leaves b; there is no other. So a sum over the way is one over the
 -- arcs climbed before and the last one's.
 -- Assumes nothing.
-use mathlib.Core.Path.{◌≡◌, refl, sym, ◌∙◌, ap}
-use mathlib.Core.Logic.{◌≢◌}
-use mathlib.Core.Bool.{true}
-use Prim.Native.Nat.{ℕ, ◌+◌, ◌≤◌, ◌<◌}
-use native.Mathlib.Omega.{arith}
+use Rattle.std.proofs.Common.{◌≡◌, refl, sym, ◌∙◌, ap, ◌≢◌, true, ℕ, ◌+◌, ◌≤◌, ◌<◌, arith}
 use Rattle.finite.specs.Tests.{same}
 use Rattle.finite.proofs.Cases.{by_eq, clash}
 use Rattle.finite.proofs.Tests.{is_same, not_same}

@@ -1,11 +1,8 @@
 -- Displayed trees of a network: each is a tree, and where its marks are near, two switchings that agree in v's component display trees that are alike
 -- at v. So the last-common-ancestor cost is local under near marks; and the marks of 01 are near.
 -- Assumes nothing.
-use mathlib.Core.Path.{◌≡◌, refl, sym, ◌∙◌, ap}
-use mathlib.Core.Logic.{◌≢◌}
+use Rattle.std.proofs.Common.{◌≡◌, refl, sym, ◌∙◌, ap, ◌≢◌, ℕ, ◌+◌, ◌≤◌, arith}
 use mathlib.Core.Bool.{and-false}
-use Prim.Native.Nat.{ℕ, ◌+◌, ◌≤◌}
-use native.Mathlib.Omega.{arith}
 use Rattle.finite.specs.Tests.{same, tally}
 use Rattle.finite.specs.Range.{count, children}
 use Rattle.finite.proofs.Cases.{by_bool, by_eq}

@@ -1,11 +1,7 @@
 -- The event of a gene by what 01 says of it: 0 exactly for a leaf gene, 2 exactly when a child sits at the same node, 3 exactly when none does and an on
 -- secondary arc leaves the node, 1 otherwise. The four cases exclude each other, so each reading holds both ways.
 -- Assumes nothing.
-use mathlib.Core.Path.{◌≡◌, refl}
-use mathlib.Core.Logic.{◌≢◌, ◌↔◌, ◌⊎◌, inl, inr}
-use mathlib.Core.Bool.{true, false, cond, ◌||◌}
-use Prim.Native.Nat.{ℕ, ◌≤◌}
-use native.Mathlib.Omega.{arith}
+use Rattle.std.proofs.Common.{◌≡◌, refl, ◌≢◌, ◌↔◌, ◌⊎◌, inl, inr, true, false, cond, ◌||◌, ℕ, ◌≤◌, arith}
 use Rattle.finite.specs.Tests.{same}
 use Rattle.finite.proofs.Cases.{by_bool, by_eq, clash}
 use Rattle.finite.proofs.Tests.{is_same, same_is, not_same, and_l, and_r, or_yes_r}

@@ -1,11 +1,7 @@
 -- A gene that sits above another node sits at a fork: leaf genes sit at leaves, and two arcs lead from the lowest common node to two nodes of which none
 -- is above the other. So the loss at a duplication's own node is a loss at a fork.
 -- Assumes nothing.
-use mathlib.Core.Path.{◌≡◌, sym, ◌∙◌, ap}
-use mathlib.Core.Logic.{◌≢◌}
-use mathlib.Core.Bool.{true}
-use Prim.Native.Nat.{ℕ, ◌-◌, ◌≤◌, ◌<◌}
-use native.Mathlib.Omega.{arith}
+use Rattle.std.proofs.Common.{◌≡◌, sym, ◌∙◌, ap, ◌≢◌, true, ℕ, ◌-◌, ◌≤◌, ◌<◌, arith}
 use Rattle.finite.proofs.Cases.{by_eq, clash, measure}
 use Rattle.finite.proofs.Tests.{and_yes}
 use Rattle.topology.proofs.Climbing.{over_child, meet_spec, meet_over_left, meet_over_right}

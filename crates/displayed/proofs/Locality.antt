@@ -1,11 +1,7 @@
 -- Two displayed trees that are alike at a node charge it the same. What is below the node is the same in both, and so it is for each arc out of it; a
 -- gene sits at v exactly when v is above its place and no child of v is.
 -- Assumes nothing.
-use mathlib.Core.Path.{◌≡◌, sym, ◌∙◌, ap}
-use mathlib.Core.Logic.{◌≢◌}
-use mathlib.Core.Bool.{true, cond}
-use Prim.Native.Nat.{ℕ, zero, suc, ◌≤◌}
-use native.Mathlib.Omega.{arith}
+use Rattle.std.proofs.Common.{◌≡◌, sym, ◌∙◌, ap, ◌≢◌, true, cond, ℕ, zero, suc, ◌≤◌, arith}
 use Rattle.finite.specs.Tests.{same}
 use Rattle.finite.specs.Range.{sum}
 use Rattle.finite.proofs.Cases.{by_eq, clash}

@@ -1,11 +1,7 @@
 -- The turns of a loop in which two climbers meet: the one of higher rank climbs, and each side keeps the arc that it climbed last and may add up a weight
 -- f. The climber that moves is not at the meeting node yet, for the other one is below that node and would have the higher rank.
 -- Assumes nothing.
-use mathlib.Core.Path.{◌≡◌, refl, sym, ◌∙◌, ap}
-use mathlib.Core.Logic.{◌≢◌}
-use mathlib.Core.Bool.{true}
-use Prim.Native.Nat.{ℕ, ◌+◌, ◌≤◌, ◌<◌}
-use native.Mathlib.Omega.{arith}
+use Rattle.std.proofs.Common.{◌≡◌, refl, sym, ◌∙◌, ap, ◌≢◌, true, ℕ, ◌+◌, ◌≤◌, ◌<◌, arith}
 use Rattle.finite.proofs.Cases.{by_eq}
 use Rattle.topology.proofs.Climbing.{over_self, over_up, over_trans, over_low, meet_same, meet_left, meet_right, meet_over_left, meet_over_right, along_stop, along_go, along_over, along_some}
 use Rattle.displayed.specs.Displayed.{Displayed, NodeOf, Tree, reaches, common, way, departure}

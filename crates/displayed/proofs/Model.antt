@@ -1,8 +1,7 @@
 -- The mapping into a network under a switching: its tree is a tree into which the gene tree is seated, columns that hold the tree give the network's mapping,
 -- and only what a switching says at reticulations counts.
 -- Assumes nothing.
-use mathlib.Core.Path.{◌≡◌, ap}
-use Prim.Native.Nat.{ℕ, ◌≤◌}
+use Rattle.std.proofs.Common.{◌≡◌, ap, ℕ, ◌≤◌}
 use Rattle.topology.specs.Networks.{Network, Node, Sound, Reticulation}
 use Rattle.topology.specs.Switchings.{Switching}
 use Rattle.reconciliation.specs.GeneTrees.{GeneTree, Rooted, Seated}

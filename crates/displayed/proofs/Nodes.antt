@@ -1,11 +1,7 @@
 -- The last-common-ancestor cost is a sum over the nodes of their charges: a duplication is counted at the one node where the gene sits, and each arc of
 -- a way at the one node that it leaves; then the sums over genes, arcs and nodes are exchanged.
 -- Assumes nothing.
-use mathlib.Core.Path.{◌≡◌, refl, sym, ◌∙◌}
-use mathlib.Core.Logic.{◌≢◌}
-use mathlib.Core.Bool.{Bool, true, false, cond, ◌&&◌, not}
-use Prim.Native.Nat.{ℕ, ◌+◌, ◌*◌, ◌≤◌}
-use native.Mathlib.Omega.{arith}
+use Rattle.std.proofs.Common.{◌≡◌, refl, sym, ◌∙◌, ◌≢◌, Bool, true, false, cond, ◌&&◌, not, ℕ, ◌+◌, ◌*◌, ◌≤◌, arith}
 use Rattle.finite.specs.Tests.{same, tally}
 use Rattle.finite.specs.Range.{sum, count}
 use Rattle.finite.proofs.Cases.{by_bool, by_eq, clash}

@@ -1,11 +1,7 @@
 -- Where a gene sits, by its children: the depth bound of `place_in` does not matter once it covers the genes below (`enough`). So an inner gene sits at
 -- the lowest node from which both children's places are reached, and every gene sits at a node below its parent gene's place.
 -- Assumes nothing.
-use mathlib.Core.Path.{◌≡◌, refl, sym, ◌∙◌, ap}
-use mathlib.Core.Logic.{◌≢◌, ◌⊎◌, inl, inr}
-use mathlib.Core.Bool.{true}
-use Prim.Native.Nat.{ℕ, zero, suc, ◌+◌, ◌-◌, ◌≤◌, ◌<◌}
-use native.Mathlib.Omega.{arith}
+use Rattle.std.proofs.Common.{◌≡◌, refl, sym, ◌∙◌, ap, ◌≢◌, ◌⊎◌, inl, inr, true, ℕ, zero, suc, ◌+◌, ◌-◌, ◌≤◌, ◌<◌, arith}
 use Rattle.finite.proofs.Cases.{by_eq, measure}
 use Rattle.finite.proofs.Tests.{is_same, not_same, and_yes}
 use Rattle.topology.proofs.Climbing.{meet_spec, meet_over_left, meet_over_right}

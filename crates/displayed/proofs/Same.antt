@@ -1,11 +1,7 @@
 -- Displayed trees with the same on arcs and the same marks at their nodes have the same mapping: nothing is read outside the nodes, and the rank bounds the
 -- climbs only.
 -- Assumes nothing.
-use mathlib.Core.Path.{◌≡◌, sym, ◌∙◌, ap}
-use mathlib.Core.Logic.{◌≢◌}
-use mathlib.Core.Bool.{Bool, true}
-use Prim.Native.Nat.{ℕ, ◌-◌, ◌≤◌, ◌<◌}
-use native.Mathlib.Omega.{arith}
+use Rattle.std.proofs.Common.{◌≡◌, sym, ◌∙◌, ap, ◌≢◌, Bool, true, ℕ, ◌-◌, ◌≤◌, ◌<◌, arith}
 use Rattle.finite.specs.Tests.{same}
 use Rattle.finite.specs.Range.{any}
 use Rattle.finite.proofs.Cases.{by_bool, by_eq, clash, measure}

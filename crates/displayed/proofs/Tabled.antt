@@ -1,11 +1,7 @@
 -- Columns that hold a displayed tree at its nodes make a tree of their own, whatever stands elsewhere, and the mapping into it is the mapping into the tree
 -- that they hold.
 -- Assumes nothing.
-use mathlib.Core.Path.{◌≡◌, refl, sym, ◌∙◌}
-use mathlib.Core.Logic.{◌≢◌}
-use mathlib.Core.Bool.{Bool}
-use Prim.Native.Nat.{ℕ, suc, ◌-◌, ◌≤◌, ◌<◌}
-use native.Mathlib.Omega.{arith}
+use Rattle.std.proofs.Common.{◌≡◌, refl, sym, ◌∙◌, ◌≢◌, Bool, ℕ, suc, ◌-◌, ◌≤◌, ◌<◌, arith}
 use Rattle.finite.specs.Tests.{same, tally}
 use Rattle.finite.specs.Tables.{within}
 use Rattle.finite.proofs.Cases.{by_bool, by_eq, by_less}

@@ -1,10 +1,6 @@
 -- Nodes of a displayed tree: what is above a node is a node, and two nodes have a common node, for the root is above both.
 -- Assumes nothing.
-use mathlib.Core.Path.{◌≡◌, sym, ◌∙◌, ap}
-use mathlib.Core.Logic.{◌≢◌}
-use mathlib.Core.Bool.{true, false}
-use Prim.Native.Nat.{ℕ, ◌<◌}
-use native.Mathlib.Omega.{arith}
+use Rattle.std.proofs.Common.{◌≡◌, sym, ◌∙◌, ap, ◌≢◌, true, false, ℕ, ◌<◌, arith}
 use Rattle.finite.proofs.Cases.{by_bool, by_eq, clash}
 use Rattle.finite.proofs.Tests.{and_yes}
 use Rattle.topology.proofs.Climbing.{climb_ind, over_self, over_up, over_not, over_zero, over_low, meet_spec, meet_over_left}

@@ -1,10 +1,6 @@
 -- A sum over the arcs of a way equals the sum over all nodes of what stands on the way: one arc is pulled out at each step of the climb.
 -- Assumes nothing.
-use mathlib.Core.Path.{◌≡◌, refl, sym, ◌∙◌}
-use mathlib.Core.Logic.{◌≢◌}
-use mathlib.Core.Bool.{true, false, cond, ◌&&◌, not}
-use Prim.Native.Nat.{ℕ, ◌+◌, ◌*◌, ◌≤◌, ◌<◌}
-use native.Mathlib.Omega.{arith}
+use Rattle.std.proofs.Common.{◌≡◌, refl, sym, ◌∙◌, ◌≢◌, true, false, cond, ◌&&◌, not, ℕ, ◌+◌, ◌*◌, ◌≤◌, ◌<◌, arith}
 use Rattle.finite.specs.Range.{sum}
 use Rattle.finite.proofs.Cases.{by_bool, by_eq, clash}
 use Rattle.finite.proofs.Tests.{is_same, not_same}

@@ -1,12 +1,7 @@
 -- What the report of a family says beyond its bytes holds of every family that is admitted: the theorems on the optimum, on the search and on histories
 -- speak of it.
 -- Assumes nothing.
-use Prim.Native.Nat.{ℕ, ◌≤◌}
-use mathlib.Core.Path.{◌≡◌, sym}
-use mathlib.Core.Bool.{not}
-use mathlib.Core.List.{List, ◌++◌}
-use lib.ListN.{length, get_or}
-use native.Mathlib.Omega.{arith}
+use Rattle.std.proofs.Common.{ℕ, ◌≤◌, ◌≡◌, sym, not, List, ◌++◌, length, get_or, arith}
 use Rattle.finite.specs.Tests.{same}
 use Rattle.finite.proofs.Tests.{tally_le}
 use Rattle.finite.proofs.Count.{count_le}

@@ -1,17 +1,12 @@
 -- The report of a family that no refusal applies to. Its network and gene tree are what the search asks for; the last state of the search is the chosen
 -- switching, so the tables that are written hold the report's numbers, each of which has a field.
 -- Assumes nothing.
-use Prim.Native.Nat.{ℕ, ◌*◌, ◌≤◌, ◌<◌}
-use mathlib.Core.Path.{◌≡◌, refl, sym, ap, ◌∙◌, fun_ext}
-use mathlib.Core.Bool.{false, not}
-use mathlib.Core.List.{List, ◌++◌}
-use lib.ListN.{length, drop}
-use native.Mathlib.Nat.{mul-le-mul, le_trans}
-use native.Mathlib.Omega.{arith}
+use Rattle.std.proofs.Common.{◌≡◌, ℕ, ◌*◌, ◌≤◌, ◌<◌, List, ◌++◌, length, drop, false, not, refl, sym, ap, ◌∙◌, arith, mul-le-mul, le_trans}
+use mathlib.Core.Path.{fun_ext}
 use Rattle.finite.specs.Tests.{same, tally}
 use Rattle.finite.specs.Range.{count}
 use Rattle.finite.proofs.Cases.{by_eq}
-use Rattle.finite.proofs.Tests.{is_same, tally_le}
+use Rattle.finite.proofs.Tests.{is_same}
 use Rattle.finite.proofs.Count.{count_same, count_le}
 use Rattle.columns.specs.Writing.{written}
 use Rattle.topology.specs.Networks.{Network, Node, Sound, is_reticulation, reticulations}
@@ -20,15 +15,19 @@ use Rattle.topology.specs.Components.{component, reticulation_count, component_c
 use Rattle.topology.specs.Lines.{NodeLines, GeneLines, network}
 use Rattle.topology.proofs.Above.{reticulation_node}
 use Rattle.topology.proofs.Components.{component_node}
-use Rattle.layout.specs.Lines.{nodes_in, genes_in}
-use Rattle.layout.specs.inner.Parts.{top}
-use Rattle.layout.specs.inner.Parts as Parts
+use Rattle.layout.specs.Lines.{nodes_in, genes_in, nodes_of, genes_of}
+use Rattle.layout.specs.inner.Parts.{top, reticulation_count as count_at_top}
 use Rattle.layout.specs.inner.Tree.{Held}
 use Rattle.layout.specs.inner.Genes.{gene_tree}
-use Rattle.layout.specs.inner.Choices.{best as chosen_setting}
 use Rattle.layout.specs.Headers.{costs}
 use Rattle.layout.specs.declared.Header.{Header}
+use Rattle.layout.specs.declared.lines.Lines.{Lines}
+use Rattle.layout.specs.declared.choices.Choices.{Choices}
+use Rattle.layout.specs.declared.tree.Tree.{Tree}
 use Rattle.layout.specs.declared.results.Placed.{Placed}
+use Rattle.layout.specs.inner.Choices.{best as chosen_setting}
+use Rattle.layout.specs.declared.parts.Parts.{Parts}
+use Rattle.layout.specs.declared.genes.Genes.{Genes}
 use Rattle.network.proofs.Acceptance.{no_others}
 use Rattle.reconciliation.specs.GeneTrees.{GeneTree}
 use Rattle.reconciliation.specs.Costs.{Costs}
@@ -61,12 +60,15 @@ plain : (N : Network) (r : ℕ) → N.secondary r ≡ 0 → (c y : ℕ) → sett
 unfolding setting_of member_of is_reticulation
 plain N r e c y = rw (is_same e)
 
-module _ (h : Header) (lines : List ℕ) (b w : ℕ) (S : Sized h b w) (P : Passed (contents_by h lines)) where
+module _ (lines : Lines) (b w : ℕ) (S : Sized b w) (P : Passed (contents_by lines)) where
+  abbrev h : Header
+  h = lines.header
+
   abbrev L : NodeLines
-  L = nodes_in h.nodes lines
+  L = nodes_of lines
 
   abbrev K : GeneLines
-  K = genes_in h.nodes h.genes lines
+  K = genes_of lines
 
   abbrev N : Network
   N = network L
@@ -78,13 +80,13 @@ module _ (h : Header) (lines : List ℕ) (b w : ℕ) (S : Sized h b w) (P : Pass
   C = costs h
 
   abbrev X : Contents
-  X = contents_by h lines
+  X = contents_by lines
 
   pub admitted : Admitted L K C
   unfolding nodes_in genes_in
   admitted = record {
-    limits = S.limits;
-    others = no_others h.nodes lines;
+    limits = lines.within;
+    others = no_others h.nodes lines.nodes;
     network = P.network;
     component = P.component;
     genes = P.genes;
@@ -98,13 +100,12 @@ module _ (h : Header) (lines : List ℕ) (b w : ℕ) (S : Sized h b w) (P : Pass
   is_sound = sound L K C admitted
 
   -- the tables that do not depend on the switching
-  module _ (parts genes : List ℕ) (E : Worked h lines parts genes b w) where
+  module _ (parts : Parts) (genes : Genes) (E : Worked lines parts genes b w) where
     tree_is : gene_tree h.genes genes ≡ G
     tree_is = E.tree
 
-    pub prepares : Prepared h lines parts genes
+    pub prepares : Prepared lines parts genes
     prepares = record {
-      limits = S.limits;
       sound = is_sound;
       few = component_few L K C admitted;
       parted = E.parted;
@@ -113,13 +114,13 @@ module _ (h : Header) (lines : List ℕ) (b w : ℕ) (S : Sized h b w) (P : Pass
     }
 
     -- the whole-network table
-    pub whole_ready : AcceptedIn h lines genes
+    pub whole_ready : AcceptedIn lines genes
     whole_ready = rw tree_is (whole_accepted L K C admitted)
 
     pub whole_room : h.genes * h.nodes ≤ w
-    whole_room = le_trans (mul-le-mul S.limits.few_genes S.limits.few_nodes) S.space
+    whole_room = le_trans (mul-le-mul lines.within.few_genes lines.within.few_nodes) S.space
 
-    module _ (y z : List ℕ) (r : ℕ) (T : WholeNetwork (W.family_in h lines genes) y z r) where
+    module _ (y z : List ℕ) (r : ℕ) (T : WholeNetwork (W.family_in lines genes) y z r) where
       whole_network : WholeNetwork (family_in X) y z r
       unfolding family_in
       whole_network = rw tree_is at T
@@ -135,7 +136,7 @@ module _ (h : Header) (lines : List ℕ) (b w : ℕ) (S : Sized h b w) (P : Pass
       table_is = whole_network.table
 
       -- what the search found: its switching is the one reported
-      module _ (choices tree : List ℕ) (results : List Placed) (f : Found) (F : Searched h lines genes choices tree results f) where
+      module _ (choices : Choices) (tree : Tree) (results : List Placed) (f : Found) (F : Searched lines genes choices tree results f) where
         searched_bests : (c : ℕ) → 1 ≤ c → c ≤ h.nodes → chosen_setting choices c ≡ best N G C c
         searched_bests = rw tree_is at F.bests
 
@@ -180,10 +181,10 @@ module _ (h : Header) (lines : List ℕ) (b w : ℕ) (S : Sized h b w) (P : Pass
         top_in : (v : ℕ) → 1 ≤ v → v ≤ h.nodes → Node N (component N v)
         top_in v a l = component_node N is_sound v (node_in v a l)
 
-        count_in : (c : ℕ) → Node N c → Parts.reticulation_count parts c ≡ reticulation_count N c
+        count_in : (c : ℕ) → Node N c → count_at_top parts c ≡ reticulation_count N c
         count_in c k = E.parted.counts c k
 
-        components_are : count h.nodes (λ c. not (same (Parts.reticulation_count parts c) 0)) ≡ component_count N
+        components_are : count h.nodes (λ c. not (same (count_at_top parts c) 0)) ≡ component_count N
         unfolding component_count network nodes_in
         components_are = count_same h.nodes _ _ (λ v a l. rw (count_in v (node_in v a l)))
 
@@ -192,7 +193,7 @@ module _ (h : Header) (lines : List ℕ) (b w : ℕ) (S : Sized h b w) (P : Pass
         reticulations_are = refl
 
         abbrev totals : Totals
-        totals = totals_by h lines parts f r
+        totals = totals_by lines parts f r
 
         totals_are : totals ≡ totals_in X
         unfolding totals_by totals_in network_in gene_tree_in reported score_under nodes_in genes_in
@@ -208,18 +209,17 @@ module _ (h : Header) (lines : List ℕ) (b w : ℕ) (S : Sized h b w) (P : Pass
           losses = rw scored (losses_small L K C admitted);
           trials = rw F.count (trials_small L K C admitted);
           whole = whole_low;
-          nodes = omega (arith, S.limits.few_nodes);
-          genes = omega (arith, S.limits.few_genes);
-          reticulations = omega (arith, S.limits.few_nodes, count_le h.nodes (is_reticulation N));
-          components = omega (arith, S.limits.few_nodes, count_le h.nodes (λ c. not (same (Parts.reticulation_count parts c) 0)));
+          nodes = omega (arith, lines.within.few_nodes);
+          genes = omega (arith, lines.within.few_genes);
+          reticulations = omega (arith, lines.within.few_nodes, count_le h.nodes (is_reticulation N));
+          components = omega (arith, lines.within.few_nodes, count_le h.nodes (λ c. not (same (count_at_top parts c) 0)));
         }
 
         pub nodes_small : SmallNodes h.nodes tree parts
         nodes_small = record {
           each = λ v a l. record {
             taken = omega (arith, held.ups v, parent_small L K C admitted σ v);
-            second = omega (arith, held.laterals v, tally_le (on_secondary N σ v));
-            top_row = omega (arith, top_at v a l, (top_in v a l).high, size_is, S.limits.few_nodes);
+            top_row = omega (arith, top_at v a l, (top_in v a l).high, size_is, lines.within.few_nodes);
             count = rw (top_at v a l) (omega (arith, count_in (component N v) (top_in v a l), component_few L K C admitted (component N v)));
           };
         }
@@ -234,19 +234,19 @@ module _ (h : Header) (lines : List ℕ) (b w : ℕ) (S : Sized h b w) (P : Pass
           };
         }
 
-        pub report_room : report_length h.nodes h.genes (reticulation_in h.nodes lines) ≤ b
+        pub report_room : report_length h.nodes h.genes (reticulation_in lines) ≤ b
         unfolding report_length
-        report_room = omega (arith, S.room, S.limits.few_genes, few)
+        report_room = omega (arith, S.room, lines.within.few_genes, few)
 
         -- the report is that of the contents
-        report_is : tabled_report totals h.nodes h.genes lines tree parts results ≡ report_in X
+        report_is : tabled_report totals lines tree parts results ≡ report_in X
         unfolding report_in network_in gene_tree_in reported nodes_in genes_in
         report_is = report_same totals (totals_in X) h.nodes h.genes (is_reticulation N) (is_reticulation N) _ _ _ _ (parent N σ) (λ v. tally (on_secondary N σ v)) (component N) (reticulation_count N)
             _ _ _ _ (place N G σ) (event N G σ) (transfers N G σ) (losses N G σ) totals_are (λ v a l. refl)
             (λ v a l. rw (held.ups v, held.laterals v, top_at v a l, count_in (component N v) (top_in v a l)))
             (λ g a l. rw (mapped.places g a (gene_in g l), mapped.events g a (gene_in g l), mapped.ways g a (gene_in g l), mapped.lost g a (gene_in g l)))
 
-        report_length_lem : report_length h.nodes h.genes (reticulation_in h.nodes lines) ≡ length (report_in X)
+        report_length_lem : report_length h.nodes h.genes (reticulation_in lines) ≡ length (report_in X)
         report_length_lem = sym (length_report totals h.nodes h.genes (is_reticulation N) _ _ _ _ _ _ _ _) ∙ ap length report_is
 
         -- so what is written with totals that are these is the outcome
@@ -254,10 +254,10 @@ module _ (h : Header) (lines : List ℕ) (b w : ℕ) (S : Sized h b w) (P : Pass
           pub totals_fit : SmallTotals q
           totals_fit = rw e totals_small
 
-          pub written_family : (d x : List ℕ) (k : ℕ) → x ≡ written d (tabled_report q h.nodes h.genes lines tree parts results)
-              → k ≡ report_length h.nodes h.genes (reticulation_in h.nodes lines) → Written X d x y z k
+          pub written_family : (d x : List ℕ) (k : ℕ) → x ≡ written d (tabled_report q lines tree parts results)
+              → k ≡ report_length h.nodes h.genes (reticulation_in lines) → Written X d x y z k
           written_family d x k v l = record {
-            result = v ∙ ap (λ (a : Totals). written d (tabled_report a h.nodes h.genes lines tree parts results)) e ∙ ap (written d) report_is;
+            result = v ∙ ap (λ (a : Totals). written d (tabled_report a lines tree parts results)) e ∙ ap (written d) report_is;
             scratch = table_is;
             bytes = l ∙ report_length_lem;
           }

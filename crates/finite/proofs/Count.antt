@@ -1,11 +1,7 @@
 -- The laws of counts over 1..n, and that a tree has fewer branchings than half its nodes: each node but the root is the child of one node,
 -- so the numbers of children add up to less than n.
 -- Assumes nothing.
-use mathlib.Core.Path.{◌≡◌, refl, sym, ap, ◌∙◌}
-use mathlib.Core.Logic.{◌≢◌}
-use mathlib.Core.Bool.{Bool, true, false, not, ◌&&◌, cond}
-use Prim.Native.Nat.{ℕ, zero, suc, ◌+◌, ◌*◌, ◌≤◌, ◌<◌}
-use native.Mathlib.Omega.{arith}
+use Rattle.std.proofs.Common.{◌≡◌, refl, sym, ap, ◌∙◌, ◌≢◌, Bool, true, false, not, ◌&&◌, cond, ℕ, zero, suc, ◌+◌, ◌*◌, ◌≤◌, ◌<◌, arith}
 use Rattle.finite.specs.Tests.{same, tally}
 use Rattle.finite.specs.Range.{sum, count, any, children}
 use Rattle.finite.proofs.Cases.{by_bool, by_eq, clash}
@@ -151,8 +147,6 @@ count_turn f v r q e t = rw (e, t) (sym (sum_more v (λ w. tally (f w))))
 
 pub count_done : (f : ℕ → Bool) (n v r : ℕ) → v ≤ n → n ≤ v → r ≡ count v f → r ≡ count n f
 count_done f n v r a b h = let e : v ≡ n = omega arith in rw e at h
-
-pub ruleset count_loop = (count_start, count_turn, count_done)
 
 -- the turns of a loop that counts the children of x: a is the parent of v + 1, q the tally of the test
 module _ (f : ℕ → ℕ) (x : ℕ) where

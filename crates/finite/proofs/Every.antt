@@ -1,11 +1,6 @@
 -- A test over 1..n says the same as its statement at each index, or at some index; and the turns of a loop that tests.
 -- Assumes nothing.
-use mathlib.Core.Path.{◌≡◌, refl, sym, ◌∙◌}
-use mathlib.Core.Logic.{◌≢◌}
-use mathlib.Core.Bool.{Bool, true, false, not}
-use Prim.Native.Nat.{ℕ, zero, suc, ◌+◌, ◌≤◌, ◌<◌}
-use native.Mathlib.Numerals.{add-one}
-use native.Mathlib.Omega.{arith}
+use Rattle.std.proofs.Common.{◌≡◌, refl, ◌≢◌, Bool, true, false, not, ℕ, zero, suc, ◌≤◌, ◌<◌, arith}
 use Rattle.finite.specs.Range.{every, any, first}
 use Rattle.finite.proofs.Cases.{by_bool, by_eq, by_order, clash}
 use Rattle.finite.proofs.Tests.{is_same, not_same}
@@ -116,61 +111,6 @@ pub every_start : (f : ℕ → Bool) → every 0 f ≡ true
 unfolding every
 every_start f = refl
 
-pub every_turn : (f : ℕ → Bool) (v : ℕ) (r : Bool) → every v f ≡ true → r ≡ f (v + 1) → r ≡ true → every (v + 1) f ≡ true
-unfolding every
-every_turn f v r h e t = let q : f (v + 1) ≡ true = sym e ∙ t in rw (add-one) (rw (← add-one, q, h))
-
-pub every_stop : (f : ℕ → Bool) (n v : ℕ) (r : Bool) → v < n → r ≡ f (v + 1) → r ≡ false → false ≡ every n f
-every_stop f n v r l e t = sym (every_fails n (v + 1) f (omega arith) (omega arith) (sym e ∙ t))
-
-pub every_turn_not : (f : ℕ → Bool) (v : ℕ) (r : Bool) → every v f ≡ true → r ≡ f (v + 1) → not r ≡ false → every (v + 1) f ≡ true
-every_turn_not f v true h e t = every_turn f v true h e refl
-every_turn_not f v false h e t = clash refl t
-
-pub every_stop_not : (f : ℕ → Bool) (n v : ℕ) (r : Bool) → v < n → r ≡ f (v + 1) → not r ≡ true → false ≡ every n f
-every_stop_not f n v true l e t = clash t refl
-every_stop_not f n v false l e t = every_stop f n v false l e refl
-
-pub every_done : (f : ℕ → Bool) (n v : ℕ) → v ≤ n → n ≤ v → every v f ≡ true → true ≡ every n f
-every_done f n v a b h = let e : v ≡ n = omega arith in sym (rw e at h)
-
-pub ruleset every_loop = (every_start, every_turn, every_stop, every_turn_not, every_stop_not, every_done)
-
 -- where none passes, each fails
 pub some_none : (n : ℕ) (f : ℕ → Bool) → any n f ≡ false → (v : ℕ) → 1 ≤ v → v ≤ n → f v ≡ false
 some_none n f e v l u = by_bool (f v) (λ t. clash (is_some n v f l u t) e) (λ t. t)
-
--- the turns of a loop that looks for one of 1..n that passes: r is the test at v + 1
-pub some_start : (f : ℕ → Bool) → any 0 f ≡ false
-unfolding any
-some_start f = refl
-
-pub some_turn : (f : ℕ → Bool) (v : ℕ) (r : Bool) → any v f ≡ false → r ≡ f (v + 1) → r ≡ false → any (v + 1) f ≡ false
-unfolding any
-some_turn f v r h e t = let q : f (v + 1) ≡ false = sym e ∙ t in rw (add-one) (rw (← add-one, q, h))
-
-pub some_stop : (f : ℕ → Bool) (n v : ℕ) (r : Bool) → v < n → r ≡ f (v + 1) → r ≡ true → true ≡ any n f
-some_stop f n v r l e t = sym (is_some n (v + 1) f (omega arith) (omega arith) (sym e ∙ t))
-
-pub some_done : (f : ℕ → Bool) (n v : ℕ) → v ≤ n → n ≤ v → any v f ≡ false → false ≡ any n f
-some_done f n v a b h = let e : v ≡ n = omega arith in sym (rw e at h)
-
-pub ruleset some_loop = (some_start, some_turn, some_stop, some_done)
-
--- the turns of a loop that looks for the lowest of 1..n that passes: r is the test at v + 1
-pub first_start : (f : ℕ → Bool) → first 0 f ≡ 0
-unfolding first
-first_start f = refl
-
-pub first_turn : (f : ℕ → Bool) (v : ℕ) (r : Bool) → first v f ≡ 0 → r ≡ f (v + 1) → r ≡ false → first (v + 1) f ≡ 0
-unfolding first
-first_turn f v r h e t = let q : f (v + 1) ≡ false = sym e ∙ t in rw (add-one) (rw (← add-one, q, is_same h))
-
-pub first_stop : (f : ℕ → Bool) (n v : ℕ) (r : Bool) → v < n → first v f ≡ 0 → r ≡ f (v + 1) → r ≡ true → v + 1 ≡ first n f
-first_stop f n v r l h e t =
-    sym (first_only n (v + 1) f (omega arith) (omega arith) (sym e ∙ t) (λ w a b. first_none v f h w a (omega arith)))
-
-pub first_done : (f : ℕ → Bool) (n v : ℕ) → v ≤ n → n ≤ v → first v f ≡ 0 → 0 ≡ first n f
-first_done f n v a b h = let e : v ≡ n = omega arith in sym (rw e at h)
-
-pub ruleset first_loop = (first_start, first_turn, first_stop, first_done)

@@ -1,8 +1,6 @@
 -- The least index of a least value: its value is least, and every lower index has a greater one.
 -- Assumes nothing.
-use mathlib.Core.Path.{◌≡◌, refl}
-use Prim.Native.Nat.{ℕ, zero, suc, ◌≤◌, ◌<◌}
-use native.Mathlib.Omega.{arith}
+use Rattle.std.proofs.Common.{◌≡◌, refl, ℕ, zero, suc, ◌≤◌, ◌<◌, arith}
 use Rattle.finite.specs.Least.{first_least}
 use Rattle.finite.proofs.Cases.{by_eq, by_less}
 use Rattle.finite.proofs.Tests.{is_under, not_under}

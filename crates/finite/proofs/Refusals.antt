@@ -1,12 +1,7 @@
 -- What the verdict of a list of refusals tells: the first whose condition holds, or that none does. Each refusal's test tells its condition, so that the
 -- walk along the tests is the walk along the conditions.
 -- Assumes nothing.
-use Prim.Native.Nat.{ℕ, ◌≤◌, ◌<◌}
-use mathlib.Core.Path.{◌≡◌, refl, sym, ◌∙◌}
-use mathlib.Core.Logic.{◌≢◌, ◌↔◌, inl, inr}
-use mathlib.Core.Bool.{Bool, true, false}
-use mathlib.Core.List.{List, [], ◌∷◌, ◌++◌}
-use native.Mathlib.Omega.{arith}
+use Rattle.std.proofs.Common.{ℕ, ◌≤◌, ◌<◌, ◌≡◌, refl, sym, ◌∙◌, ◌≢◌, ◌↔◌, inl, inr, Bool, true, false, List, [], ◌∷◌, ◌++◌, arith}
 use Rattle.finite.specs.Refusals.{least_report, Refusal, verdict, First, NoneApplies, Tells, AllTell, no_more, one_more}
 use Rattle.finite.proofs.Cases.{by_bool, by_eq, clash}
 
@@ -67,6 +62,21 @@ unfolding First
 first_some [] no_more k f = absurd f
 first_some (r ∷ rs) (one_more t ts) k (inl (c, e)) = λ z. t.some (e ∙ z)
 first_some (r ∷ rs) (one_more t ts) k (inr (n, f)) = first_some rs (ts (untold t n)) k f
+
+-- only one number is that of the first, and none is where none applies
+pub first_one : (rs : List Refusal) (j k : ℕ) → First rs j → First rs k → j ≡ k
+unfolding First
+first_one [] j k a b = absurd a
+first_one (r ∷ rs) j k (inl (c, e)) (inl (d, f)) = sym e ∙ f
+first_one (r ∷ rs) j k (inl (c, e)) (inr (n, b)) = absurd (n c)
+first_one (r ∷ rs) j k (inr (n, a)) (inl (d, f)) = absurd (n d)
+first_one (r ∷ rs) j k (inr (n, a)) (inr (m, b)) = first_one rs j k a b
+
+pub first_none : (rs : List Refusal) (k : ℕ) → First rs k → NoneApplies rs → ⊥
+unfolding First NoneApplies
+first_none [] k a n = a
+first_none (r ∷ rs) k (inl (c, e)) n = n.0 c
+first_none (r ∷ rs) k (inr (m, a)) n = first_none rs k a n.1
 
 pub none_told : (rs : List Refusal) → AllTell rs → NoneApplies rs → verdict rs ≡ 0
 unfolding verdict NoneApplies

@@ -1,12 +1,6 @@
 -- The laws of sums over 1..n: each is an induction on n, one index a step.
 -- Assumes nothing.
-use mathlib.Core.Path.{◌≡◌, refl, sym, ◌∙◌, ap}
-use mathlib.Core.Logic.{◌≢◌}
-use Prim.Native.Nat.{ℕ, zero, suc, ◌+◌, ◌-◌, ◌*◌, ◌≤◌, ◌<◌}
-use native.Mathlib.Nat.{mul-zero, mul-add}
-use native.Mathlib.Numerals.{add-one}
-use native.Mathlib.Omega.{arith}
-use mathlib.Core.Bool.{cond}
+use Rattle.std.proofs.Common.{◌≡◌, refl, sym, ◌∙◌, ap, ◌≢◌, ℕ, zero, suc, ◌+◌, ◌-◌, ◌*◌, ◌≤◌, ◌<◌, mul-zero, mul-add, add-one, arith, cond}
 use Rattle.finite.specs.Tests.{same}
 use Rattle.finite.specs.Range.{sum}
 use Rattle.finite.proofs.Cases.{by_eq}
@@ -112,18 +106,6 @@ sum_short (suc k) a f l u h e = by_eq a (suc k)
     (λ q. let z : f (suc k) ≡ 0 = rw q at e in omega (arith, sum_bound k 1 f (λ v _ _. h v)))
     (λ q. omega (arith, sum_short k a f l (omega arith) h e, h (suc k)))
 
--- the turns of a loop that adds up f 1 .. f n: q is f at v + 1
-pub sum_start : (f : ℕ → ℕ) → 0 ≡ sum 0 f
-sum_start f = sym (sum_zero_range f)
-
-pub sum_turn : (f : ℕ → ℕ) (v r q : ℕ) → r ≡ sum v f → q ≡ f (v + 1) → r + q ≡ sum (v + 1) f
-sum_turn f v r q e t = rw (e, t) (sym (sum_more v f))
-
-pub sum_done : (f : ℕ → ℕ) (n v r : ℕ) → v ≤ n → n ≤ v → r ≡ sum v f → r ≡ sum n f
-sum_done f n v r a b h = let e : v ≡ n = omega arith in rw e at h
-
-pub ruleset sum_loop = (sum_start, sum_turn, sum_done)
-
 -- and of one that adds up f n .. f 1: k is the whole sum, q is f at v
 pub down_start : (f : ℕ → ℕ) (n : ℕ) → 0 + sum n f ≡ sum n f
 down_start f n = omega arith
@@ -139,5 +121,3 @@ down_fits f v r q k l e t = omega (arith, down_more f v l)
 
 pub down_done : (f : ℕ → ℕ) (v r k : ℕ) → v ≤ 0 → r + sum v f ≡ k → r ≡ k
 down_done f v r k l e = let z : v ≡ 0 = omega arith in omega (arith, ap (λ (m : ℕ). sum m f) z, sum_zero_range f)
-
-pub ruleset down_loop = (down_start, down_turn, down_fits, down_done)

@@ -1,11 +1,8 @@
 -- The laws of a filled table and of a list of zeros: what they hold at each place.
 -- Assumes nothing.
-use Prim.Native.Nat.{ℕ, zero, suc, ◌≤◌, ◌<◌}
-use mathlib.Core.Path.{◌≡◌, refl, sym, ◌∙◌, fun_ext}
-use mathlib.Core.List.{List}
-use lib.ListN.{length, length-set, replicate, length-replicate}
-use lib.Seq.{get_or-set_same, get_or-set_other}
-use native.Mathlib.Omega.{arith}
+use Rattle.std.proofs.Common.{ℕ, zero, suc, ◌≤◌, ◌<◌, ◌≡◌, refl, sym, ◌∙◌, List, length, length-set, replicate, get_or-set_same, get_or-set_other, arith}
+use mathlib.Core.Path.{fun_ext}
+use lib.ListN.{length-replicate}
 use Rattle.finite.specs.Tests.{under}
 use Rattle.finite.specs.Tables.{at, zeros, filled, within}
 use Rattle.finite.proofs.Cases.{by_eq, by_order, by_less}

@@ -1,11 +1,8 @@
 -- The laws of tests: what a test that passed or failed says, and what makes it pass or fail. The rulesets at the end are for `search`.
 -- Assumes nothing.
-use mathlib.Core.Path.{◌≡◌, refl, sym, ◌∙◌, ap}
-use mathlib.Core.Logic.{◌≢◌}
-use mathlib.Core.Bool.{Bool, true, false, cond, not, ◌&&◌, ◌||◌, beq}
-use Prim.Native.Nat.{ℕ, ◌%◌, ◌≤◌, ◌<◌}
-use native.Mathlib.Omega.{arith}
-use borrow.Author.Tests.{eqb-true, eqb-false, eq-eqb, ne_eqb, ltb-true, ltb-false, lt-ltb, le-ltb}
+use Rattle.std.proofs.Common.{◌≡◌, refl, sym, ◌≢◌, Bool, true, false, cond, not, ◌&&◌, ◌||◌, ℕ, ◌%◌, ◌≤◌, ◌<◌, arith, eqb-true, eq-eqb, ne_eqb, ltb-true, ltb-false, lt-ltb, le-ltb}
+use mathlib.Core.Bool.{beq}
+use borrow.Author.Tests.{eqb-false}
 use Rattle.finite.specs.Tests.{same, under, tally}
 use Rattle.finite.proofs.Cases.{by_bool, by_eq, clash}
 
@@ -119,19 +116,9 @@ cond_yes a b c r e q = rw e q
 pub cond_no : {A : Type 0} (a : Bool) (b c r : A) → a ≡ false → c ≡ r → cond a b c ≡ r
 cond_no a b c r e q = rw e q
 
-pub pick_yes : {A : Type 0} (a : Bool) (b c r : A) → a ≡ true → r ≡ b → r ≡ cond a b c
-pick_yes a b c r e q = rw e q
-
-pub pick_no : {A : Type 0} (a : Bool) (b c r : A) → a ≡ false → r ≡ c → r ≡ cond a b c
-pick_no a b c r e q = rw e q
-
 pub cond_same : {A : Type 0} (b : Bool) (x : A) → cond b x x ≡ x
 cond_same true x = refl
 cond_same false x = refl
-
--- what the answer r of a callee says of the test x that it computes
-pub told : (r x t : Bool) → r ≡ x → r ≡ t → x ≡ t
-told r x t e q = sym e ∙ q
 
 pub told_not_yes : (r x : Bool) → r ≡ x → not r ≡ false → x ≡ true
 told_not_yes true x e q = sym e
@@ -140,22 +127,6 @@ told_not_yes false x e q = clash refl q
 pub told_not_no : (r x : Bool) → r ≡ x → not r ≡ true → x ≡ false
 told_not_no true x e q = clash q refl
 told_not_no false x e q = sym e
-
-pub told_same : (r x k : ℕ) → r ≡ x → r ≡ k → same x k ≡ true
-told_same r x k e q = is_same (sym e ∙ q)
-
-pub told_other : (r x k : ℕ) → r ≡ x → (r ≡ k → ⊥) → same x k ≡ false
-told_other r x k e q = not_same (λ h. q (e ∙ h))
-
--- what a function answers with a last test, the tests before it being settled
-pub or_rest : (a b r : Bool) → a ≡ false → r ≡ b → r ≡ (a || b)
-or_rest a b r e q = rw e q
-
-pub and_rest : (a b r : Bool) → a ≡ true → r ≡ b → r ≡ (a && b)
-and_rest a b r e q = rw e q
-
-pub not_rest : (a r : Bool) → r ≡ a → not r ≡ not a
-not_rest a r e = ap not e
 
 -- the count of one test
 pub tally_le : (b : Bool) → tally b ≤ 1
@@ -172,11 +143,7 @@ pub tally_imp : (a b : Bool) → (a ≡ true → b ≡ true) → tally a ≤ tal
 tally_imp true b h = rw (h refl) (omega arith)
 tally_imp false b h = omega arith
 
-pub ruleset told_laws = (told, told_not_yes, told_not_no, told_same, told_other)
-
 pub ruleset test_laws = (and_no_l, and_no_r, and_yes, or_yes_l, or_yes_r, or_no, not_yes, not_no, cond_yes, cond_no, is_same, not_same, is_under, not_under)
-
-pub ruleset rest_laws = (or_rest, and_rest, not_rest, and_no_l, and_no_r, and_yes, or_yes_l, or_yes_r, or_no, not_yes, not_no, is_same, not_same, is_under, not_under)
 
 -- the lowest bit of a number, as a test and as a number
 pub tally_odd : (x : ℕ) → tally (same (x % 2) 1) ≡ x % 2

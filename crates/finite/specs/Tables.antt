@@ -1,11 +1,15 @@
 -- Tables: lists whose entry v is about the number v. Entry 0 is about no number.
 -- Assumes nothing.
-use Rattle.std.specs.Prelude.{ℕ, zero, suc, ◌&&◌, cond, List, get_or, set, replicate}
+use Rattle.std.specs.Prelude.{ℕ, zero, suc, Bool, false, ◌&&◌, cond, List, get_or, set, replicate}
 use Rattle.finite.specs.Tests.{under}
 
 -- what a table holds for a number: 0 past its end
 abbrev pub at : List ℕ → ℕ → ℕ
 at l v = get_or l v 0
+
+-- what a table of flags holds for a number: false past its end
+abbrev pub holds : List Bool → ℕ → Bool
+holds l v = get_or l v false
 
 -- a table without entries
 unfoldable pub zeros : List ℕ

@@ -1,11 +1,7 @@
 -- Where refusals 12 and 13 do not apply the lines describe a rooted gene tree, each leaf gene of which sits at a node that bears its species. A gene with
 -- a child has two, so the lowest and the lowest after it are its children and no other gene is.
 -- Assumes nothing.
-use mathlib.Core.Path.{◌≡◌, refl, sym, ◌∙◌}
-use mathlib.Core.Logic.{◌≢◌, ◌⊎◌, inl, inr}
-use mathlib.Core.Bool.{true, false}
-use Prim.Native.Nat.{ℕ, ◌≤◌, ◌<◌}
-use native.Mathlib.Omega.{arith}
+use Rattle.std.proofs.Common.{◌≡◌, refl, sym, ◌∙◌, ◌≢◌, ◌⊎◌, inl, inr, true, false, ℕ, ◌≤◌, ◌<◌, arith}
 use Rattle.finite.specs.Tests.{same, under, tally}
 use Rattle.finite.specs.Range.{count, children}
 use Rattle.finite.specs.Tables.{within}

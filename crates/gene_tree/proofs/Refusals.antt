@@ -1,11 +1,7 @@
 -- The tests of refusals 12 and 13 say what 01 says: a test over the genes that passes passes at some gene, and there one of its clauses applies; where it
 -- fails, each gene is free of all clauses.
 -- Assumes nothing.
-use mathlib.Core.Path.{◌≡◌, refl}
-use mathlib.Core.Logic.{◌≢◌}
-use mathlib.Core.Bool.{true, false, ◌||◌, not}
-use Prim.Native.Nat.{ℕ, ◌≤◌, ◌<◌}
-use native.Mathlib.Omega.{arith}
+use Rattle.std.proofs.Common.{◌≡◌, refl, ◌≢◌, true, false, ◌||◌, not, ℕ, ◌≤◌, ◌<◌, arith}
 use Rattle.finite.specs.Tests.{same, under}
 use Rattle.finite.specs.Refusals.{verdict, AllTell, no_more, one_more}
 use Rattle.finite.proofs.Cases.{by_bool, by_eq}

@@ -1,12 +1,12 @@
 // Refusals 12 and 13, by the gene lines.
-ghost use Rattle.std.specs.Prelude.{◌≡◌, ◌||◌, ◌≤◌};
-ghost use Rattle.layout.specs.Lines.{nodes_in, genes_in};
+ghost use Rattle.std.specs.Prelude.{◌≡◌, ◌||◌};
+ghost use Rattle.layout.specs.Lines.{nodes_of, genes_of};
 ghost use Rattle.gene_tree.specs.Refusals.{bad_parent, bad_count, refusal12, refusal13};
 ghost use Rattle.gene_tree.specs.inner.Work.{ChildCounts};
 
 use super::species::Species;
-use layout::lines::{gene_parent, gene_species};
-use tables::column::Column;
+use layout::lines::Lines;
+use tables::{Column, child_counts};
 
 // 12: of gene g with the parent p.
 #[tactic(auto, unfolding(crate::specs::Refusals::bad_parent, finite::specs::Tests::same, finite::specs::Tests::under))]
@@ -31,46 +31,46 @@ fn bad_gene(g: usize, p: usize, k: u32) -> bool
     bad_parent(g, p) || bad_count(k)
 }
 
-// The genes 1 to m by their lines, with the number of each gene's children, and the species of the network.
+// The genes by their lines, with the number of each gene's children, and the species of the network.
 #[derive(Clone, Copy)]
 pub struct GeneLines<'a> {
-    m: usize,
     species: Species<'a>,
-    child_counts: &'a Column,
-    ghost few: { m ≤ 127 },
-    ghost counted: { ChildCounts (genes_in species.n m species.lines.now) child_counts.now },
+    child_counts: Column,
+    ghost counted: { ChildCounts (genes_of species.lines.now) child_counts },
 }
 
 impl<'a> GeneLines<'a> {
-    pub fn new(m: usize, species: Species<'a>, child_counts: &'a Column) -> GeneLines<'a>
-        requires few { m ≤ 127 }
-        requires counted { ChildCounts (genes_in species.n m species.lines.now) child_counts.now }
-        ensures { (result.m ≡ m) × (result.species.n ≡ species.entry.n) × (result.species.lines.now ≡ species.entry.lines.now) }
+    #[tactic(auto, using(crate::proofs::Filling::counts_noted), unfolding(finite::specs::Tables::zeros))]
+    pub fn counted(lines: &'a Lines) -> GeneLines<'a>
+        ensures { result.species.lines.now ≡ lines.now }
     {
+        let mut counts = [0; 128];
+        child_counts(lines.header.genes, &lines.genes.parent, &mut counts);
         GeneLines {
-            m,
-            species,
-            child_counts,
+            species: Species::noted(lines),
+            child_counts: counts,
         }
     }
 
     // 12: whether the genes do not form a tree.
     pub fn twelve(&self) -> bool
-        ensures { result ≡ refusal12 (genes_in self.now.species.n self.now.m self.now.species.lines.now) }
+        ensures { result ≡ refusal12 (genes_of self.now.species.lines.now) }
     {
-        let n = self.species.n;
         let lines = self.species.lines;
-        (1..=self.m).any(|g| bad_gene(g, gene_parent(lines, n, g), self.child_counts[g]))
+        (1..lines.header.genes + 1).any(|g| bad_gene(
+            g,
+            lines.genes.parent[g] as usize,
+            self.child_counts[g],
+        ))
     }
 
     // 13: whether a leaf gene has no leaf of its species, or an inner gene has a species.
     pub fn thirteen(&self) -> bool
-        ensures { result ≡ refusal13 (nodes_in self.now.species.n self.now.species.lines.now) (genes_in self.now.species.n self.now.m self.now.species.lines.now) }
+        ensures { result ≡ refusal13 (nodes_of self.now.species.lines.now) (genes_of self.now.species.lines.now) }
     {
-        let n = self.species.n;
         let lines = self.species.lines;
-        (1..=self.m).any(|g| self
+        (1..lines.header.genes + 1).any(|g| self
             .species
-            .bad_species(self.child_counts[g], gene_species(lines, n, g)))
+            .bad_species(self.child_counts[g], lines.genes.species[g] as usize))
     }
 }

@@ -4,41 +4,27 @@
 mod gene_lines;
 mod species;
 
-ghost use Rattle.std.specs.Prelude.{◌≡◌, ◌≤◌, length};
+ghost use Rattle.std.specs.Prelude.{◌≡◌};
 ghost use Rattle.finite.specs.Refusals.{verdict};
 ghost use Rattle.refusals.specs.Numbers.{refused};
-ghost use Rattle.tables.specs.Columns.{column, blank};
-ghost use Rattle.layout.specs.Lines.{nodes_in, genes_in};
-ghost use Rattle.layout.specs.inner.Genes.{gene_tree, leaf_column, parent_column};
+ghost use Rattle.layout.specs.Lines.{nodes_of, genes_of};
+ghost use Rattle.layout.specs.inner.Genes.{gene_tree};
 ghost use Rattle.gene_tree.specs.Refusals.{gene_refusals};
-ghost use Rattle.gene_tree.specs.Genes.{leaf_of, gene_tree_of};
+ghost use Rattle.gene_tree.specs.Genes.{gene_tree_of};
 
 use gene_lines::GeneLines;
-use layout::genes::{Genes, LEAF, LEFT, PARENT, RIGHT};
-use layout::lines;
-use layout::lines::{Lines, gene_species};
+use layout::genes::Genes;
+use layout::lines::Lines;
 use refusals::Refusal;
 use species::Species;
-use tables::column::child_counts;
-use text_lines::FIELDS;
+use tables::{fill, next_children};
 
-// The first of the gene lines' refusals that applies, for any lines of n nodes and m genes.
-#[tactic(auto, using(finite::proofs::Refusals::verdict_laws, crate::proofs::Filling::counts_noted), unfolding(finite::specs::Tables::zeros, crate::specs::Refusals::gene_refusals, crate::specs::Refusals::species_refusals))]
-pub fn verdict(n: usize, m: usize, lines: &Lines) -> Result<(), Refusal>
-    requires { (n ≤ 127) × (m ≤ 127) }
-    ensures { refused result ≡ verdict (gene_refusals (nodes_in n lines.now) (genes_in n m lines.now)) }
+// The first of the gene lines' refusals that applies.
+#[tactic(auto, using(finite::proofs::Refusals::verdict_laws), unfolding(crate::specs::Refusals::gene_refusals, crate::specs::Refusals::species_refusals))]
+pub fn verdict(lines: &Lines) -> Result<(), Refusal>
+    ensures { refused result ≡ verdict (gene_refusals (nodes_of lines.now) (genes_of lines.now)) }
 {
-    let mut lowest = [0; 128];
-    species::note(n, lines, &mut lowest);
-    let species = Species {
-        n,
-        lines,
-        lowest: &lowest,
-    };
-    let mut counts = [0; 128];
-    let parents = FIELDS * n + lines::GENE_PARENT;
-    child_counts(m, lines, parents, FIELDS, &mut counts);
-    let genes = GeneLines::new(m, species, &counts);
+    let genes = GeneLines::counted(lines);
     if genes.twelve() {
         return Err(Refusal::BadGeneTree);
     }
@@ -48,45 +34,26 @@ pub fn verdict(n: usize, m: usize, lines: &Lines) -> Result<(), Refusal>
     Ok(())
 }
 
-// The node that bears the species of each gene: that at which a leaf gene sits.
-#[tactic(auto, using(tables::proofs::Columns::column_none, tables::proofs::Columns::column_turn, tables::proofs::Columns::column_done, crate::proofs::Reading::leaf_read), unfolding(finite::specs::Tables::zeros))]
-fn fill_leaves(n: usize, m: usize, lines: &Lines, genes: &mut Genes)
-    requires { (n ≤ 127) × (m ≤ 127) }
-    ensures { genes.new ≡ column leaf_column m genes.old (leaf_of (nodes_in n lines.now) (genes_in n m lines.now)) }
+// The gene tree of the lines; a leaf gene sits at the node that bears its species.
+pub fn build(lines: &Lines) -> Genes
+    ensures { gene_tree lines.now.header.genes result ≡ gene_tree_of (nodes_of lines.now) (genes_of lines.now) }
 {
-    let mut lowest = [0; 128];
-    species::note(n, lines, &mut lowest);
-    let species = Species {
-        n,
-        lines,
-        lowest: &lowest,
+    let m = lines.header.genes;
+    let species = Species::noted(lines);
+    let zeros = [0; 128];
+    let mut genes = Genes {
+        left: zeros,
+        right: zeros,
+        leaf: zeros,
+        parent: zeros,
     };
-    for g in 1..=m {
-        let v = species.bearer(gene_species(lines, n, g));
-        tables::put(genes, LEAF, g, v as u32);
-    }
-}
-
-#[tactic(auto, using(tables::proofs::Columns::column_none, tables::proofs::Columns::column_turn, tables::proofs::Columns::column_done, crate::proofs::Reading::parent_copied))]
-fn fill_parents(n: usize, m: usize, lines: &Lines, genes: &mut Genes)
-    requires { (n ≤ 127) × (m ≤ 127) }
-    ensures { genes.new ≡ column parent_column m genes.old (genes_in n m lines.now).parent }
-{
-    for g in 1..=m {
-        let p = lines[FIELDS * n + lines::GENE_PARENT + FIELDS * g];
-        tables::put(genes, PARENT, g, p);
-    }
-}
-
-// The gene tree of the lines, in a table of zeros; for any lines of n nodes and m genes.
-pub fn fill(n: usize, m: usize, lines: &Lines, genes: &mut Genes)
-    requires { (n ≤ 127) × (m ≤ 127) × (genes.old ≡ blank) }
-    ensures tree { gene_tree m genes.new ≡ gene_tree_of (nodes_in n lines.now) (genes_in n m lines.now) }
-    ensures long { length genes.new ≡ 512 }
-{
-    let parents = FIELDS * n + lines::GENE_PARENT;
-    tables::next_children(m, lines, parents, FIELDS, genes, PARENT, LEFT);
-    tables::next_children(m, lines, parents, FIELDS, genes, LEFT, RIGHT);
-    fill_leaves(n, m, lines, genes);
-    fill_parents(n, m, lines, genes);
+    next_children(m, &lines.genes.parent, &zeros, &mut genes.left);
+    next_children(m, &lines.genes.parent, &genes.left, &mut genes.right);
+    fill(
+        m,
+        |g| species.bearer(lines.genes.species[g] as usize) as u32,
+        &mut genes.leaf,
+    );
+    fill(m, |g| lines.genes.parent[g], &mut genes.parent);
+    genes
 }

@@ -1,60 +1,62 @@
 // The species of a network: which node bears each.
 ghost use Rattle.std.specs.Prelude.{◌≡◌, ◌≤◌};
-ghost use Rattle.finite.specs.Tables.{zeros};
 ghost use Rattle.tables.specs.Children.{next};
-ghost use Rattle.layout.specs.Lines.{nodes_in};
+ghost use Rattle.layout.specs.Lines.{nodes_of};
 ghost use Rattle.gene_tree.specs.Refusals.{bearer, bad_species};
 ghost use Rattle.gene_tree.specs.inner.Work.{Bearers};
 
-use layout::lines;
-use layout::lines::{Lines, node_species};
-use tables::column::{Column, next_children};
-use text_lines::FIELDS;
+use layout::lines::Lines;
+use tables::{Column, next_children};
 
-// The lowest node of species s, 0 where there is none.
-fn sought(n: usize, lines: &Lines, s: usize) -> usize
-    requires { n ≤ 127 }
-    ensures { result ≡ next n (nodes_in n lines.now).species 0 s }
+// The lowest node of species s, 0 where there is none, as the definitions and the table of leaves have it. (`1..n + 1`: an inclusive range takes twice as
+// long, see crate finite, proofs/Upto.)
+fn sought(lines: &Lines, s: usize) -> usize
+    ensures { result ≡ next lines.now.header.nodes (nodes_of lines.now).species 0 s }
 {
-    (1..=n).find(|v| node_species(lines, *v) == s).unwrap_or(0)
+    (1..lines.header.nodes + 1)
+        .find(|v| lines.nodes.species[*v] as usize == s)
+        .unwrap_or(0)
 }
 
-// The lowest node of each number up to n as a species, where zeros stand.
-#[tactic(auto, using(crate::proofs::Filling::bearers_noted), unfolding(finite::specs::Tables::zeros))]
-pub fn note(n: usize, lines: &Lines, lowest: &mut Column)
-    requires { (n ≤ 127) × (lowest.old ≡ zeros) }
-    ensures { Bearers (nodes_in n lines.now) lowest.new }
-{
-    next_children(n, lines, lines::NODE_SPECIES, FIELDS, &[0; 128], lowest);
-}
-
-// The nodes 1 to n by their lines, with what `note` notes of them.
+// The nodes by their lines, with the lowest node of each number up to n as a species.
 #[derive(Clone, Copy)]
 pub struct Species<'a> {
-    pub n: usize,
     pub lines: &'a Lines,
-    pub lowest: &'a Column,
-    ghost few: { n ≤ 127 },
-    ghost noted: { Bearers (nodes_in n lines.now) lowest.now },
+    lowest: Column,
+    ghost noted: { Bearers (nodes_of lines.now) lowest },
 }
 
 impl<'a> Species<'a> {
+    #[tactic(auto, using(crate::proofs::Filling::bearers_noted), unfolding(finite::specs::Tables::zeros))]
+    pub fn noted(lines: &'a Lines) -> Species<'a>
+        ensures { result.lines.now ≡ lines.now }
+    {
+        let mut lowest = [0; 128];
+        next_children(
+            lines.header.nodes,
+            &lines.nodes.species,
+            &[0; 128],
+            &mut lowest,
+        );
+        Species { lines, lowest }
+    }
+
     // The node that bears species s, 0 where none does. No species is borne by no node, though other nodes than leaves have 0 there. Species are most
     // often numbered from 1, so the bearers of the numbers up to n are looked up, and only others are sought.
     #[tactic(auto, using(crate::proofs::Reading::bearer_noted, crate::proofs::Reading::bearer_sought, crate::proofs::Reading::bearer_low))]
     pub fn bearer(&self, s: usize) -> usize
-        ensures { (result ≡ bearer (nodes_in self.now.n self.now.lines.now) s) × (result ≤ self.now.n) }
+        ensures { (result ≡ bearer (nodes_of self.now.lines.now) s) × (result ≤ self.now.lines.now.header.nodes) }
     {
-        if s <= self.n {
+        if s <= self.lines.header.nodes {
             return self.lowest[s] as usize;
         }
-        sought(self.n, self.lines, s)
+        sought(self.lines, s)
     }
 
     // 13: of a gene with k children, of species s.
     #[tactic(auto, unfolding(crate::specs::Refusals::bad_species, finite::specs::Tests::same))]
     pub fn bad_species(&self, k: u32, s: usize) -> bool
-        ensures { result ≡ bad_species (nodes_in self.now.n self.now.lines.now) k s }
+        ensures { result ≡ bad_species (nodes_of self.now.lines.now) k s }
     {
         if k == 0 { self.bearer(s) == 0 } else { s != 0 }
     }

@@ -1,10 +1,7 @@
 -- An accepted network and gene tree are graded: arcs lead to nodes of higher rank, of which there are fewer, and a gene's children have higher numbers.
 -- So the least costs of their family are computed, and an order in which nodes come after their parents serves to fill the table from its end.
 -- Assumes nothing.
-use mathlib.Core.Path.{◌≡◌, sym, ◌∙◌, subst}
-use mathlib.Core.Logic.{◌≢◌}
-use Prim.Native.Nat.{ℕ, suc, ◌≤◌, ◌<◌}
-use native.Mathlib.Omega.{arith}
+use Rattle.std.proofs.Common.{◌≡◌, sym, ◌∙◌, subst, ◌≢◌, ℕ, suc, ◌≤◌, ◌<◌, arith}
 use Rattle.finite.specs.Tests.{under}
 use Rattle.finite.specs.Range.{count}
 use Rattle.finite.proofs.Cases.{by_eq, by_less}

@@ -1,11 +1,7 @@
 -- No history costs much: the steps that cost are at most the gene's size times the nodes below and one, for a child's steps lie below its parent's.
 -- Assumes nothing.
-use mathlib.Core.Path.{◌≡◌}
-use mathlib.Core.Logic.{◌⊎◌, inl, inr}
+use Rattle.std.proofs.Common.{◌≡◌, ◌⊎◌, inl, inr, ℕ, suc, ◌+◌, ◌*◌, ◌≤◌, ◌<◌, mul-le-mul_left, mul-le-mul_right, mul-le-mul, mul-suc, suc-mul, add-mul, mul-add, le_trans, arith}
 use mathlib.Core.Option.{some}
-use Prim.Native.Nat.{ℕ, suc, ◌+◌, ◌*◌, ◌≤◌, ◌<◌}
-use native.Mathlib.Nat.{mul-le-mul_left, mul-le-mul_right, mul-le-mul, mul-suc, suc-mul, add-mul, mul-add, le_trans}
-use native.Mathlib.Omega.{arith}
 use Rattle.reconciliation.specs.Limits.{Limits}
 use Rattle.histories.specs.Histories.{pair, Family, least}
 use Rattle.histories.specs.Histories.{History, rest, duplicate, speciate, speciate_lose, transfer_stay, transfer_part, transfer_lose, pass, cost}

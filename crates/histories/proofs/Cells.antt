@@ -1,15 +1,9 @@
 -- The table in the scratch: gene and node tell the places apart, every place below genes × nodes has a gene and a node, and so words that hold every
 -- row are the table, followed by what was there.
 -- Assumes nothing.
-use mathlib.Core.Path.{◌≡◌, refl, sym, ap, ◌∙◌, fun_ext}
-use mathlib.Core.Logic.{◌≢◌, ◌⊎◌, inl, inr}
-use mathlib.Core.List.{List, ◌++◌}
-use Prim.Native.Nat.{ℕ, zero, suc, ◌+◌, ◌-◌, ◌*◌, ◌/◌, ◌%◌, ◌≤◌, ◌<◌}
-use native.Mathlib.Nat.{mul-le-mul_right, suc-mul, add-zero, div-lt_iff_lt-mul}
-use native.Mathlib.Nat.{div-add-mod', mod-lt}
-use native.Mathlib.Omega.{arith}
-use lib.ListN.{get_or, length, set, drop, length-append, length-drop, get_or-append}
-use lib.Seq.{get_or-set_same, get_or-set_other, get_or-append-add, get_or-drop, ext_get_or}
+use mathlib.Core.Path.{fun_ext}
+use Rattle.std.proofs.Common.{◌≡◌, refl, sym, ap, ◌∙◌, ◌≢◌, ◌⊎◌, inl, inr, List, ◌++◌, ℕ, zero, suc, ◌+◌, ◌-◌, ◌*◌, ◌/◌, ◌%◌, ◌≤◌, ◌<◌, mul-le-mul_right, suc-mul, add-zero, div-lt_iff_lt-mul, div-add-mod', mod-lt, arith, get_or, length, set, drop, length-append, length-drop, get_or-set_same, get_or-set_other, get_or-append-add, get_or-drop, ext_get_or}
+use lib.ListN.{get_or-append}
 use Rattle.finite.proofs.Cases.{by_eq, by_less, by_order}
 use Rattle.histories.specs.Histories.{Family, least}
 use Rattle.histories.specs.Words.{word, cost_of, cell, listed, word_at, words}

@@ -1,11 +1,7 @@
 -- Least costs, taken apart: a cost is attained by something, or at most that of something. The lesser of two and the sum of two keep both.
 -- Assumes nothing.
-use mathlib.Core.Path.{◌≡◌, refl, ap}
-use mathlib.Core.Logic.{◌⊎◌, inl, inr}
+use Rattle.std.proofs.Common.{◌≡◌, refl, ap, ◌⊎◌, inl, inr, ℕ, ◌+◌, ◌≤◌, min, le_antisymm, arith}
 use mathlib.Core.Option.{none, some}
-use Prim.Native.Nat.{ℕ, ◌+◌, ◌≤◌, min}
-use native.Mathlib.Nat.{le_antisymm}
-use native.Mathlib.Omega.{arith}
 use native.Mathlib.Decide.{dec_le}
 use Rattle.histories.specs.Histories.{Cost, ◌lesser◌, ◌⊕◌, then, both}
 

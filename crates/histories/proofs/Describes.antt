@@ -1,9 +1,6 @@
 -- An accepted family sees the network and the gene tree of its lines: arcs by the laws of their ends (proofs/Ends), genes by their definition.
 -- Assumes nothing.
-use mathlib.Core.Path.{◌≡◌, refl, sym, ◌∙◌}
-use mathlib.Core.Logic.{◌≢◌}
-use Prim.Native.Nat.{ℕ}
-use native.Mathlib.Omega.{arith}
+use Rattle.std.proofs.Common.{◌≡◌, refl, sym, ◌∙◌, ◌≢◌, ℕ, arith}
 use Rattle.finite.proofs.Cases.{by_eq}
 use Rattle.topology.specs.Lines.{NodeLines, GeneLines, network}
 use Rattle.reconciliation.specs.GeneTrees.{GeneTree}

@@ -1,10 +1,7 @@
 -- The family says exactly what leaves each node of an accepted network: at most two principal arcs, a secondary one only beside a single principal one,
 -- so no arc out is left out.
 -- Assumes nothing.
-use mathlib.Core.Path.{◌≡◌, sym, ◌∙◌, ap}
-use mathlib.Core.Logic.{◌≢◌, inl, inr, ◌↔◌, ⊎_elim}
-use Prim.Native.Nat.{ℕ, ◌≤◌}
-use native.Mathlib.Omega.{arith}
+use Rattle.std.proofs.Common.{◌≡◌, sym, ◌∙◌, ap, ◌≢◌, inl, inr, ◌↔◌, ⊎_elim, ℕ, ◌≤◌, arith}
 use Rattle.finite.specs.Tests.{same}
 use Rattle.finite.specs.Range.{children}
 use Rattle.finite.proofs.Cases.{by_eq}

@@ -1,14 +1,8 @@
 -- Filling the table: a word computed from the rows of the children and from nodes further down is the least cost, so a row is filled node by node in
 -- an order in which arcs out come first, and the table gene by gene from the last.
 -- Assumes nothing.
-use mathlib.Core.Path.{◌≡◌, refl, sym, ◌∙◌}
-use mathlib.Core.Logic.{inl, inr}
+use Rattle.std.proofs.Common.{◌≡◌, refl, sym, ◌∙◌, inl, inr, List, ℕ, ◌-◌, ◌*◌, ◌≤◌, ◌<◌, arith, length, set, length-set, drop, length-drop, get_or-set_other}
 use mathlib.Core.Option.{none, some}
-use mathlib.Core.List.{List}
-use Prim.Native.Nat.{ℕ, ◌-◌, ◌*◌, ◌≤◌, ◌<◌}
-use native.Mathlib.Omega.{arith}
-use lib.ListN.{length, set, length-set, drop, length-drop}
-use lib.Seq.{get_or-set_other}
 use Rattle.finite.proofs.Cases.{by_eq, by_less}
 use Rattle.histories.specs.Histories.{Cost, parting, moving, ending, stepping, clauses, least, Out, leaf, one, two, mixed, Gene, tip, pair, Family}
 use Rattle.histories.specs.inner.Grades.{Leads, Prepared}

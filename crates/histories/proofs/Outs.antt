@@ -1,8 +1,6 @@
 -- What leaves a node by its first, second and secondary child, in each of the four cases.
 -- Assumes nothing.
-use mathlib.Core.Path.{◌≡◌}
-use mathlib.Core.Logic.{◌≢◌}
-use Prim.Native.Nat.{ℕ}
+use Rattle.std.proofs.Common.{◌≡◌, ◌≢◌, ℕ}
 use Rattle.finite.proofs.Tests.{is_same, not_same}
 use Rattle.finite.proofs.Cases.{by_eq}
 use Rattle.histories.specs.Histories.{leaf, one, two, mixed}

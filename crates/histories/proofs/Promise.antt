@@ -1,12 +1,9 @@
 -- The promise of an accepted network and gene tree: the computed costs are least over all histories, gene 1 has a history that costs below 1,000,000, and
 -- each word of the table tells its cost, for a least cost lies below the word for no history. Filled rows are the table, so they keep the promise.
 -- Assumes nothing.
-use mathlib.Core.Path.{◌≡◌, refl, sym, ap, ◌∙◌}
+use Rattle.std.proofs.Common.{◌≡◌, refl, sym, ap, ◌∙◌, List, ◌++◌, ℕ, zero, suc, ◌*◌, ◌≤◌, ◌<◌, arith, length, get_or, drop}
 use mathlib.Core.Option.{none, some}
-use mathlib.Core.List.{List, ◌++◌}
-use Prim.Native.Nat.{ℕ, zero, suc, ◌*◌, ◌≤◌, ◌<◌}
-use native.Mathlib.Omega.{arith}
-use lib.ListN.{length, get_or, drop, get_or-append}
+use lib.ListN.{get_or-append}
 use Rattle.topology.specs.Lines.{NodeLines, GeneLines}
 use Rattle.reconciliation.specs.GeneTrees.{GeneTree}
 use Rattle.reconciliation.specs.Costs.{Costs}

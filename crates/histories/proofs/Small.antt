@@ -1,13 +1,8 @@
 -- Gene 1 has a history that costs below 1,000,000: every inner gene duplicates at the root, and every leaf gene goes down principal arcs to a leaf of
 -- its species, at most 63 times with a loss, for fewer than half of the nodes have two principal arcs.
 -- Assumes nothing.
-use mathlib.Core.Path.{◌≡◌, refl, ap, ◌∙◌, subst}
-use mathlib.Core.Logic.{◌≢◌, inl, inr}
-use mathlib.Core.Bool.{Bool, true, ◌&&◌, not}
+use Rattle.std.proofs.Common.{◌≡◌, refl, ap, ◌∙◌, subst, ◌≢◌, inl, inr, Bool, true, ◌&&◌, not, ℕ, suc, ◌+◌, ◌*◌, ◌≤◌, ◌<◌, mul-suc, mul-le-mul, mul-le-mul_left, le_trans, arith}
 use mathlib.Core.Option.{some}
-use Prim.Native.Nat.{ℕ, suc, ◌+◌, ◌*◌, ◌≤◌, ◌<◌}
-use native.Mathlib.Nat.{mul-suc, mul-le-mul, mul-le-mul_left, le_trans}
-use native.Mathlib.Omega.{arith}
 use Rattle.finite.specs.Tests.{same, under, tally}
 use Rattle.finite.specs.Range.{count, children}
 use Rattle.finite.proofs.Cases.{by_eq, by_less, clash, measure}

@@ -1,9 +1,7 @@
 -- A word and the cost that it stands for: the word for no history is told apart, every other word is its cost.
 -- Assumes nothing.
-use mathlib.Core.Path.{◌≡◌, sym}
-use mathlib.Core.Logic.{◌≢◌}
+use Rattle.std.proofs.Common.{◌≡◌, sym, ◌≢◌, ℕ}
 use mathlib.Core.Option.{none, some}
-use Prim.Native.Nat.{ℕ}
 use Rattle.finite.proofs.Tests.{is_same, not_same}
 use Rattle.finite.proofs.Cases.{by_eq}
 use Rattle.histories.specs.Words.{no_history, word, cost_of}

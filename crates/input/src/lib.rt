@@ -7,6 +7,7 @@ use std::io;
 use std::io::Read;
 
 // Reads until what is lent is full, or to the end of the input. How many bytes that is fits what is lent, which keeps its length, after a failed read too.
+// (A `while`: it counts what a source gave, and no iterator reads so into what is lent.)
 pub fn read_full<R: Read>(mut source: R, into: &mut [u8]) -> io::Result<usize>
 where
     R: Drop,

@@ -1,7 +1,6 @@
 -- The theorem about all known sheets: the checker computes the test of every row.
 -- Assumes nothing.
-use mathlib.Core.Path.{◌≡◌, refl}
-use mathlib.Core.Bool.{true}
+use Rattle.std.proofs.Common.{◌≡◌, refl, true}
 use mathlib.Core.List.{Memᴰ}
 use Rattle.histories.specs.Histories.{open_Histories}
 use Rattle.histories.specs.Words.{open_Words}

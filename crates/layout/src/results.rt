@@ -12,7 +12,7 @@ pub struct Placed {
 // By gene: entry k is about gene k, entry 0 about none.
 pub type Results = [Placed; 128];
 
-// A gene of which nothing is known yet.
+// A gene of which nothing is known yet: a value that every gene's is written over before it is read, so that no Option is asked at each reading.
 pub const UNPLACED: Placed = Placed {
     place: 0,
     event: Event::LeafGene,

@@ -1,14 +1,7 @@
 -- The turns of the loop over the genes, from the highest number down. A gene's children have higher numbers, so their places stand; what is on their ways
 -- is counted at it, each child at the one gene that it is a child of.
 -- Assumes nothing.
-use mathlib.Core.Path.{◌≡◌, refl, sym, ◌∙◌, ap, subst}
-use mathlib.Core.Logic.{◌≢◌, ◌⊎◌, inl, inr}
-use mathlib.Core.Bool.{◌||◌}
-use mathlib.Core.List.{List}
-use Prim.Native.Nat.{ℕ, ◌+◌, ◌-◌, ◌*◌, ◌≤◌, ◌<◌}
-use lib.ListN.{length, length-set}
-use native.Mathlib.Omega.{arith}
-use native.Mathlib.Nat.{mul-le-mul, mul-add, mul-zero}
+use Rattle.std.proofs.Common.{◌≡◌, refl, sym, ◌∙◌, ap, subst, ◌≢◌, ◌⊎◌, inl, inr, ◌||◌, List, ℕ, ◌+◌, ◌-◌, ◌*◌, ◌≤◌, ◌<◌, length, length-set, arith, mul-le-mul, mul-add, mul-zero}
 use Rattle.finite.specs.Tests.{same, tally}
 use Rattle.finite.specs.Range.{count}
 use Rattle.finite.proofs.Cases.{by_eq}
@@ -25,6 +18,8 @@ use Rattle.layout.specs.declared.Header.{Header}
 use Rattle.layout.specs.declared.events.Event.{Event}
 use Rattle.layout.specs.declared.events.Event.TheVariants.{LeafGene}
 use Rattle.layout.specs.declared.results.Placed.{Placed}
+use Rattle.layout.specs.declared.tree.Tree.{Tree as Table}
+use Rattle.layout.specs.declared.genes.Genes.{Genes}
 use Rattle.reconciliation.specs.GeneTrees.{GeneTree}
 use Rattle.reconciliation.proofs.Genes.{parent_gene}
 use Rattle.displayed.specs.Displayed.{Displayed, Tree, common}
@@ -35,7 +30,7 @@ use Rattle.displayed.proofs.Children.{root_transfers, root_losses, child_transfe
 use Rattle.displayed.proofs.Events.{event_leaf, event_inner, duplication_inner}
 use Rattle.displayed.proofs.Gathering.{by_parents}
 use Rattle.displayed.proofs.Bounds.{duplications_few, transfers_few, losses_under}
-use Rattle.mapping.specs.inner.Climbs.{tree_of}
+use Rattle.mapping.specs.inner.Climbs.{tree_of, Climbable}
 use Rattle.mapping.specs.inner.Pairs.{event_by, Paired}
 use Rattle.mapping.specs.inner.Evaluation.{Family, LeavesUpto, Lent, Seats, seated_by, sent_to, noted_by, Room, raised_by, Counted, total_of, score_of, of_children, Upto, Evaluated}
 use Rattle.mapping.specs.declared.Steps.{Steps}
@@ -75,7 +70,7 @@ module _ (r : List Placed) (k node : ℕ) (event : Event) (l : length r ≡ 128)
   seated_losses = written_kept r k seated inside (λ p. p.losses) refl
 
 -- the leaf genes one after another
-pub leaves_start : (g : List ℕ) {r : List Placed} → r ≡ blank → LeavesUpto g 0 r
+pub leaves_start : (g : Genes) {r : List Placed} → r ≡ blank → LeavesUpto g 0 r
 leaves_start g e = rw e (record {
   long = blank_long;
   places = λ j a b. absurd (omega arith);
@@ -84,7 +79,7 @@ leaves_start g e = rw e (record {
   no_losses = λ j. ap (λ (p : Placed). p.losses) (blank_placed j);
 })
 
-module _ {g : List ℕ} {r : List Placed} (k : ℕ) (low : 1 ≤ k) (u : LeavesUpto g (k - 1) r) where
+module _ {g : Genes} {r : List Placed} (k : ℕ) (low : 1 ≤ k) (u : LeavesUpto g (k - 1) r) where
   pub leaves_skip : L.left g k ≢ 0 → LeavesUpto g k r
   leaves_skip d = record {
     long = u.long;
@@ -97,22 +92,25 @@ module _ {g : List ℕ} {r : List Placed} (k : ℕ) (low : 1 ≤ k) (u : LeavesU
       below : (j : ℕ) → j ≤ k → L.left g j ≡ 0 → j ≤ k - 1
       below j b e = by_eq j k (λ q. absurd (d (ap (L.left g) (sym q) ∙ e))) (λ q. omega arith)
 
-  pub leaves_next : {s : List Placed} {v : ℕ} → k ≤ 127 → v ≡ L.leaf g k → s ≡ seated_by r k v LeafGene → LeavesUpto g k s
-  leaves_next {s} {v} l ev q = rw q (record {
+  pub leaves_next : {s : List Placed} → k ≤ 127 → s ≡ seated_by r k (L.leaf g k) LeafGene → LeavesUpto g k s
+  leaves_next l q = rw q (record {
     long = seated_long r k v LeafGene u.long lk;
-    places = λ j a b e. by_eq j k (λ p. rw p (seated_place r k v LeafGene u.long lk ∙ ev)) (λ p. ap (λ (x : Placed). x.place) (seated_other r k v LeafGene u.long lk j p) ∙ u.places j a (omega arith) e);
+    places = λ j a b e. by_eq j k (λ p. rw p (seated_place r k v LeafGene u.long lk)) (λ p. ap (λ (x : Placed). x.place) (seated_other r k v LeafGene u.long lk j p) ∙ u.places j a (omega arith) e);
     events = λ j a b e. by_eq j k (λ p. rw p (seated_event r k v LeafGene u.long lk)) (λ p. ap (λ (x : Placed). number x.event) (seated_other r k v LeafGene u.long lk j p) ∙ u.events j a (omega arith) e);
     no_transfers = λ j. seated_transfers r k v LeafGene u.long lk j ∙ u.no_transfers j;
     no_losses = λ j. seated_losses r k v LeafGene u.long lk j ∙ u.no_losses j;
   })
     where
+      v : ℕ
+      v = L.leaf g k
+
       lk : k < 128
       lk = omega arith
 
-pub leaves_after : {g : List ℕ} {r : List Placed} (k : ℕ) → LeavesUpto g k r → LeavesUpto g (k + 1 - 1) r
+pub leaves_after : {g : Genes} {r : List Placed} (k : ℕ) → LeavesUpto g k r → LeavesUpto g (k + 1 - 1) r
 leaves_after {g} {r} k u = let e : k ≡ k + 1 - 1 = omega arith in subst (λ (j : ℕ). LeavesUpto g j r) e u
 
-pub leaves_done : {m k : ℕ} {g : List ℕ} {r : List Placed} → m ≤ k → LeavesUpto g k r → Lent (gene_tree m g) r
+pub leaves_done : {m k : ℕ} {g : Genes} {r : List Placed} → m ≤ k → LeavesUpto g k r → Lent (gene_tree m g) r
 unfolding gene_tree
 leaves_done l u = record {
   long = u.long;
@@ -218,7 +216,7 @@ module _ (r : List Placed) (k a b : ℕ) (p : Pair) (l : length r ≡ 128) (lk :
 times : {a b c d : ℕ} → a ≤ c → b ≤ d → a * b ≤ c * d
 times = mul-le-mul
 
-module _ {h : Header} {t g : List ℕ} (F : Family h t g) where
+module _ {h : Header} {t : Table} {g : Genes} (F : Family h t g) where
   abbrev T : Displayed
   T = tree_of h.nodes t
 
@@ -231,14 +229,6 @@ module _ {h : Header} {t g : List ℕ} (F : Family h t g) where
   count_is : G.count ≡ h.genes
   unfolding gene_tree
   count_is = refl
-
-  left_is : (k : ℕ) → G.left k ≡ L.left g k
-  unfolding gene_tree
-  left_is k = refl
-
-  right_is : (k : ℕ) → G.right k ≡ L.right g k
-  unfolding gene_tree
-  right_is k = refl
 
   size_few : T.size ≤ 127
   unfolding tree_of tree_in
@@ -464,36 +454,24 @@ module _ {h : Header} {t g : List ℕ} (F : Family h t g) where
         pub upto_inner : (v : List Placed) (e : Score) → v ≡ noted_by r k a b p → e ≡ raised_by h s p → Upto T G (costs h) (k - 1) v e
         upto_inner v e q x = rw x (noted v q)
 
-    -- the same with the numbers as the code has them
-    module _ {a : ℕ} (ea : a ≡ L.left g k) where
-      left_none : a ≡ 0 → G.left k ≡ 0
-      left_none e = left_is k ∙ sym ea ∙ e
+    -- the same with the children as the table has them
+    pub leaf_turn : L.left g k ≡ 0 → Upto T G (costs h) (k - 1) r s
+    unfolding gene_tree
+    leaf_turn e = upto_leaf e
 
-      left_some : (a ≡ 0 → ⊥) → G.left k ≢ 0
-      left_some d e = d (ea ∙ sym (left_is k) ∙ e)
+    module _ (d : L.left g k ≢ 0) where
+      pub inner_fits : Climbable h.nodes t × Seats h.nodes t r (L.left g k) (L.right g k) × (k ≤ 127) × (L.left g k ≤ 127) × (L.right g k ≤ 127)
+      unfolding gene_tree
+      inner_fits = let f = inner_few d in (F.tree, seats d, f.0, f.1, f.2)
 
-      pub leaf_turn : a ≡ 0 → Upto T G (costs h) (k - 1) r s
-      leaf_turn e = upto_leaf (left_none e)
+      module _ {p : Pair} (i : Paired T (R.place r (L.left g k)) (R.place r (L.right g k)) p) where
+        pub inner_room : Room h s p
+        unfolding gene_tree
+        inner_room = room d p i
 
-      module _ {b : ℕ} (d : a ≡ 0 → ⊥) (eb : b ≡ L.right g k) where
-        a_is : a ≡ G.left k
-        a_is = ea ∙ sym (left_is k)
-
-        b_is : b ≡ G.right k
-        b_is = eb ∙ sym (right_is k)
-
-        pub inner_fits : Seats h.nodes t r a b × (k ≤ 127) × (a ≤ 127) × (b ≤ 127)
-        inner_fits = let f = inner_few (left_some d) in rw (a_is, b_is) (seats (left_some d), f.0, f.1, f.2)
-
-        module _ {p : Pair} (i : Paired T (R.place r a) (R.place r b) p) where
-          j : Paired T (R.place r (G.left k)) (R.place r (G.right k)) p
-          j = rw (a_is, b_is) at i
-
-          pub inner_room : Room h s p
-          inner_room = room (left_some d) p j
-
-          pub inner_turn : {x : List Placed} {e : Score} → x ≡ noted_by r k a b p → e ≡ raised_by h s p → Upto T G (costs h) (k - 1) x e
-          inner_turn {x} {e} q w = upto_inner (left_some d) p j x e (rw (a_is, b_is) at q) w
+        pub inner_turn : {x : List Placed} {e : Score} → x ≡ noted_by r k (L.left g k) (L.right g k) p → e ≡ raised_by h s p → Upto T G (costs h) (k - 1) x e
+        unfolding gene_tree
+        inner_turn {x} {e} q w = upto_inner d p i x e q w
 
   -- after the last gene
   module _ {r : List Placed} {s : Score} {k : ℕ} (none : k ≤ 0) (u : Upto T G (costs h) k r s) where

@@ -1,16 +1,12 @@
 -- The turns of the loop in which two climbers meet, over the table. What the climbers have added up and what lies ahead of them make up their whole ways,
 -- so that nothing added up is more than a whole way, which has no more arcs than there are nodes.
 -- Assumes nothing.
-use mathlib.Core.Path.{◌≡◌, sym, ◌∙◌, ap}
-use mathlib.Core.Logic.{◌≢◌}
-use mathlib.Core.Bool.{true}
-use mathlib.Core.List.{List}
-use Prim.Native.Nat.{ℕ, ◌+◌, ◌≤◌, ◌<◌}
-use native.Mathlib.Omega.{arith}
+use Rattle.std.proofs.Common.{◌≡◌, refl, sym, ◌∙◌, ap, ◌≢◌, true, ℕ, ◌+◌, ◌≤◌, ◌<◌, arith}
 use Rattle.finite.specs.Tests.{same, tally}
 use Rattle.finite.proofs.Tests.{tally_le}
 use Rattle.topology.proofs.Climbing.{meet_over_left, meet_over_right}
 use Rattle.layout.specs.inner.Tree.{up, lateral, rank, arcs}
+use Rattle.layout.specs.declared.tree.Tree.{Tree as Table}
 use Rattle.displayed.specs.Displayed.{Displayed, NodeOf, Tree, reaches, common, way}
 use Rattle.displayed.specs.inner.Arcs.{move, mark}
 use Rattle.displayed.specs.inner.Tabled.{tree_in}
@@ -21,16 +17,20 @@ use Rattle.displayed.proofs.Meeting as M
 use Rattle.mapping.specs.inner.Climbs.{fork_in, tree_of, Climbable, Light, climbed_by, Meeting}
 use Rattle.mapping.specs.declared.Way.{Way}
 
-pub fork_le : (t : List ℕ) (v : ℕ) → fork_in t v ≤ 1
+pub fork_le : (t : Table) (v : ℕ) → fork_in t v ≤ 1
 unfolding fork_in
 fork_le t v = tally_le (same (arcs t v) 2)
+
+-- 1 for a node that a secondary arc is on into
+abbrev moves : Table → ℕ → ℕ
+moves t v = tally (lateral t v)
 
 -- no arc is climbed yet
 abbrev pub Still : Way → Type 0
 Still w = (w.transfers ≡ 0) × ((w.losses ≡ 0) × (w.last ≡ 0))
 
 -- the climbers of x and y stand at a and b, whose ranks are p and q
-pub record Climbing (T : Displayed) (t : List ℕ) (x y a b : ℕ) (l r : Way) (p q : ℕ) : Type 0 where
+pub record Climbing (T : Displayed) (t : Table) (x y a b : ℕ) (l r : Way) (p q : ℕ) : Type 0 where
   pub climbs : M.Climb T x y a b l.last r.last
   pub left_rank : p ≡ rank t a
   pub right_rank : q ≡ rank t b
@@ -40,7 +40,7 @@ pub record Climbing (T : Displayed) (t : List ℕ) (x y a b : ℕ) (l r : Way) (
   pub right_losses : r.losses + way T (mark T) (common T x y) b ≡ way T (mark T) (common T x y) y
 
 -- what the table tells at a node
-module _ (n : ℕ) (t : List ℕ) (K : Climbable n t) (a : ℕ) (k : NodeOf (tree_of n t) a) where
+module _ (n : ℕ) (t : Table) (K : Climbable n t) (a : ℕ) (k : NodeOf (tree_of n t) a) where
   pub node_low : 1 ≤ a
   node_low = k.low
 
@@ -50,35 +50,38 @@ module _ (n : ℕ) (t : List ℕ) (K : Climbable n t) (a : ℕ) (k : NodeOf (tre
 
   pub up_is : (tree_of n t).up a ≡ up t a
   unfolding tree_of
-  up_is = read_up n (up t) (rank t) (lateral t) (fork_in t) a node_low node_high
+  up_is = read_up n (up t) (rank t) (moves t) (fork_in t) a node_low node_high
 
   pub rank_is : (tree_of n t).rank a ≡ rank t a
   unfolding tree_of
-  rank_is = read_rank n (up t) (rank t) (lateral t) (fork_in t) a node_low (K.ranks a node_low node_high)
+  rank_is = read_rank n (up t) (rank t) (moves t) (fork_in t) a node_low (K.ranks a node_low node_high)
 
-  pub move_is : lateral t a ≡ move (tree_of n t) a
+  pub move_is : tally (lateral t a) ≡ move (tree_of n t) a
   unfolding tree_of
-  move_is = sym (read_lateral n (up t) (rank t) (lateral t) (fork_in t) a (K.laterals a))
+  move_is = sym (read_lateral n (up t) (rank t) (moves t) (fork_in t) a (tally_le (lateral t a)))
 
   pub mark_is : fork_in t (up t a) ≡ mark (tree_of n t) a
   unfolding tree_of
-  mark_is = sym (ap (λ (v : ℕ). tally ((tree_of n t).forks v)) up_is ∙ read_forks n (up t) (rank t) (lateral t) (fork_in t) (up t a) (fork_le t (up t a)))
+  mark_is = sym (ap (λ (v : ℕ). tally ((tree_of n t).forks v)) up_is ∙ read_forks n (up t) (rank t) (moves t) (fork_in t) (up t a) (fork_le t (up t a)))
 
-  pub node_few : (a ≤ 127) × (up t a ≤ 127) × (lateral t a ≤ 1)
-  node_few = (omega (arith, node_high, K.few), omega (arith, K.ups a, K.few), K.laterals a)
+  pub node_few : a ≤ 127
+  node_few = omega (arith, node_high, K.few)
 
-module _ {n : ℕ} {t : List ℕ} {x y : ℕ} (K : Climbable n t) (kx : NodeOf (tree_of n t) x) (ky : NodeOf (tree_of n t) y) where
+  up_few : up t a ≤ 127
+  up_few = omega (arith, K.ups a, K.few)
+
+module _ {n : ℕ} {t : Table} {x y : ℕ} (K : Climbable n t) (kx : NodeOf (tree_of n t) x) (ky : NodeOf (tree_of n t) y) where
   abbrev T : Displayed
   T = tree_of n t
 
   ok : Tree T
   ok = K.tree
 
-  pub climbing_start : {l r : Way} {p q : ℕ} → Still l → Still r → p ≡ rank t x → q ≡ rank t y → Climbing T t x y x y l r p q
-  climbing_start zl zr ep eq = record {
+  pub climbing_start : {l r : Way} → Still l → Still r → Climbing T t x y x y l r (rank t x) (rank t y)
+  climbing_start zl zr = record {
     climbs = rw (zl.1.1, zr.1.1) (M.meet_start T ok x y kx ky);
-    left_rank = ep;
-    right_rank = eq;
+    left_rank = refl;
+    right_rank = refl;
     left_transfers = omega (arith, zl.0);
     left_losses = omega (arith, zl.1.0);
     right_transfers = omega (arith, zr.0);
@@ -122,16 +125,7 @@ module _ {n : ℕ} {t : List ℕ} {x y : ℕ} (K : Climbable n t) (kx : NodeOf (
     right_light = record { transfers = omega (arith, c.right_transfers, right_few (move T) move_le); losses = omega (arith, c.right_losses, right_few (mark T) mark_le) }
 
     pub left_low : a ≤ 127
-    left_low = (node_few n t K a ka).0
-
-    pub right_low : b ≤ 127
-    right_low = (node_few n t K b kb).0
-
-    pub left_up_low : {v : ℕ} → v ≡ up t a → v ≤ 127
-    left_up_low e = rw e (node_few n t K a ka).1
-
-    pub right_up_low : {v : ℕ} → v ≡ up t b → v ≤ 127
-    right_up_low e = rw e (node_few n t K b kb).1
+    left_low = node_few n t K a ka
 
     -- the ranks of the table are the tree's
     ranks : (T.rank a ≡ p) × (T.rank b ≡ q)
@@ -142,56 +136,52 @@ module _ {n : ℕ} {t : List ℕ} {x y : ℕ} (K : Climbable n t) (kx : NodeOf (
       lower : T.rank b ≤ T.rank a
       lower = omega (arith, ranks.0, ranks.1)
 
-      turn : (v : ℕ) → v ≡ up t a → M.Climb T x y v b a r.last
-      turn v e = M.turn_left T ok x y a b l.last r.last kx ky c.climbs v lower d (e ∙ sym (up_is n t K a ka))
+      up_a : up t a ≡ T.up a
+      up_a = sym (up_is n t K a ka)
 
-      pub climbs_left : (a ≤ 127) × (up t a ≤ 127) × (lateral t a ≤ 1) × Light l
-      climbs_left = let f = node_few n t K a ka in (f.0, f.1, f.2, left_light)
+      pub climbs_left : (a ≤ 127) × (up t a ≤ 127) × Light l
+      climbs_left = (node_few n t K a ka, up_few n t K a ka, left_light)
 
-      pub climbing_left : {w : Way} {v k : ℕ} → w ≡ climbed_by t l a → v ≡ up t a → k ≡ rank t v → Climbing T t x y v b w r k q
+      pub climbing_left : {w : Way} → w ≡ climbed_by t l a → Climbing T t x y (up t a) b w r (rank t (up t a)) q
       unfolding climbed_by
-      climbing_left {w} {v} {k} e ev ek =
-          let ew : v ≡ T.up a = ev ∙ sym (up_is n t K a ka) in
-          rw e (record {
-            climbs = turn v ev;
-            left_rank = ek;
-            right_rank = c.right_rank;
-            left_transfers = M.sum_left T ok x y a b l.last r.last kx ky c.climbs (move T) l.transfers _ _ v c.left_transfers lower d (move_is n t K a ka) ew;
-            left_losses = M.sum_left T ok x y a b l.last r.last kx ky c.climbs (mark T) l.losses _ _ v c.left_losses lower d (mark_is n t K a ka) ew;
-            right_transfers = c.right_transfers;
-            right_losses = c.right_losses;
-          })
+      climbing_left e = rw e (record {
+        climbs = M.turn_left T ok x y a b l.last r.last kx ky c.climbs (up t a) lower d up_a;
+        left_rank = refl;
+        right_rank = c.right_rank;
+        left_transfers = M.sum_left T ok x y a b l.last r.last kx ky c.climbs (move T) l.transfers _ _ (up t a) c.left_transfers lower d (move_is n t K a ka) up_a;
+        left_losses = M.sum_left T ok x y a b l.last r.last kx ky c.climbs (mark T) l.losses _ _ (up t a) c.left_losses lower d (mark_is n t K a ka) up_a;
+        right_transfers = c.right_transfers;
+        right_losses = c.right_losses;
+      })
 
-      pub falls_left : {v : ℕ} → v ≡ up t a → T.rank v + T.rank b < T.rank a + T.rank b
-      falls_left {v} ev = M.less_left T ok x y a b l.last r.last kx ky c.climbs v lower d (ev ∙ sym (up_is n t K a ka))
+      pub falls_left : T.rank (up t a) + T.rank b < T.rank a + T.rank b
+      falls_left = M.less_left T ok x y a b l.last r.last kx ky c.climbs (up t a) lower d up_a
 
     -- the climber of y stands lower, and climbs
     module _ (h : p < q) where
       higher : T.rank a < T.rank b
       higher = omega (arith, ranks.0, ranks.1)
 
-      turn' : (v : ℕ) → v ≡ up t b → M.Climb T x y a v l.last b
-      turn' v e = M.turn_right T ok x y a b l.last r.last kx ky c.climbs v higher (e ∙ sym (up_is n t K b kb))
+      up_b : up t b ≡ T.up b
+      up_b = sym (up_is n t K b kb)
 
-      pub climbs_right : (b ≤ 127) × (up t b ≤ 127) × (lateral t b ≤ 1) × Light r
-      climbs_right = let f = node_few n t K b kb in (f.0, f.1, f.2, right_light)
+      pub climbs_right : (b ≤ 127) × (up t b ≤ 127) × Light r
+      climbs_right = (node_few n t K b kb, up_few n t K b kb, right_light)
 
-      pub climbing_right : {w : Way} {v k : ℕ} → w ≡ climbed_by t r b → v ≡ up t b → k ≡ rank t v → Climbing T t x y a v l w p k
+      pub climbing_right : {w : Way} → w ≡ climbed_by t r b → Climbing T t x y a (up t b) l w p (rank t (up t b))
       unfolding climbed_by
-      climbing_right {w} {v} {k} e ev ek =
-          let ew : v ≡ T.up b = ev ∙ sym (up_is n t K b kb) in
-          rw e (record {
-            climbs = turn' v ev;
-            left_rank = c.left_rank;
-            right_rank = ek;
-            left_transfers = c.left_transfers;
-            left_losses = c.left_losses;
-            right_transfers = M.sum_right T ok x y a b l.last r.last kx ky c.climbs (move T) r.transfers _ _ v c.right_transfers higher (move_is n t K b kb) ew;
-            right_losses = M.sum_right T ok x y a b l.last r.last kx ky c.climbs (mark T) r.losses _ _ v c.right_losses higher (mark_is n t K b kb) ew;
-          })
+      climbing_right e = rw e (record {
+        climbs = M.turn_right T ok x y a b l.last r.last kx ky c.climbs (up t b) higher up_b;
+        left_rank = c.left_rank;
+        right_rank = refl;
+        left_transfers = c.left_transfers;
+        left_losses = c.left_losses;
+        right_transfers = M.sum_right T ok x y a b l.last r.last kx ky c.climbs (move T) r.transfers _ _ (up t b) c.right_transfers higher (move_is n t K b kb) up_b;
+        right_losses = M.sum_right T ok x y a b l.last r.last kx ky c.climbs (mark T) r.losses _ _ (up t b) c.right_losses higher (mark_is n t K b kb) up_b;
+      })
 
-      pub falls_right : {v : ℕ} → v ≡ up t b → T.rank a + T.rank v < T.rank a + T.rank b
-      falls_right {v} ev = M.less_right T ok x y a b l.last r.last kx ky c.climbs v higher (ev ∙ sym (up_is n t K b kb))
+      pub falls_right : T.rank a + T.rank (up t b) < T.rank a + T.rank b
+      falls_right = M.less_right T ok x y a b l.last r.last kx ky c.climbs (up t b) higher up_b
 
     pub climbing_done : a ≡ b → Meeting T x y (record { node = a; left = l; right = r })
     climbing_done e = record {

@@ -1,22 +1,19 @@
 -- An inner gene from where its children's climbs meet. The last arc of each climb leaves the gene's node, so where both children sit elsewhere these two
 -- are all its on arcs: they tell whether it sends a secondary arc, and what the node would charge that is not passed.
 -- Assumes nothing.
-use mathlib.Core.Path.{◌≡◌, refl, sym, ◌∙◌, ap}
-use mathlib.Core.Logic.{◌≢◌, ◌⊎◌, inl, inr}
-use mathlib.Core.Bool.{Bool, true, false, cond, ◌||◌}
-use mathlib.Core.List.{List}
-use Prim.Native.Nat.{ℕ, ◌≤◌}
-use native.Mathlib.Omega.{arith}
+use Rattle.std.proofs.Common.{◌≡◌, refl, sym, ◌∙◌, ap, ◌≢◌, ◌⊎◌, inl, inr, Bool, true, false, cond, ◌||◌, ℕ, ◌≤◌, arith}
 use Rattle.finite.specs.Tests.{same}
 use Rattle.finite.proofs.Cases.{by_eq, by_bool, clash}
 use Rattle.finite.proofs.Tests.{is_same, not_same, and_yes}
 use Rattle.topology.proofs.Climbing.{meet_spec, meet_over_left, meet_over_right}
 use Rattle.layout.specs.Events.{number}
 use Rattle.layout.specs.inner.Tree.{up, lateral}
+use Rattle.layout.specs.declared.tree.Tree.{Tree as Table}
 use Rattle.layout.specs.declared.events.Event.{Event}
 use Rattle.displayed.specs.Displayed.{Displayed, NodeOf, Tree, reaches, common, departure}
 use Rattle.displayed.specs.Mapping.{sends}
 use Rattle.displayed.specs.inner.Arcs.{mark}
+use Rattle.displayed.specs.inner.Tabled.{tree_in}
 use Rattle.displayed.proofs.Trees.{common_node, not_below}
 use Rattle.displayed.proofs.Departures.{depart_self, departing, departure_node, depart_le}
 use Rattle.displayed.proofs.Events.{Sends, sends_is, is_sends}
@@ -26,7 +23,7 @@ use Rattle.mapping.specs.declared.Way.{Way}
 use Rattle.mapping.specs.declared.Met.{Met}
 use Rattle.mapping.specs.declared.Pair.{Pair}
 use Rattle.mapping.specs.declared.Steps.{Steps}
-use Rattle.mapping.proofs.Meeting.{node_high, up_is, move_is, mark_is}
+use Rattle.mapping.proofs.Meeting.{node_high, up_is, mark_is}
 
 -- the event is a duplication just where a child stays
 pub stays_or_not : (sent : Bool) (b x y : ℕ) → same (event_by sent b x y) 2 ≡ (same x b || same y b)
@@ -37,7 +34,7 @@ stays_or_not sent b x y = by_bool (same x b || same y b) (λ h. rw h (is_same {m
     other true = not_same (λ e. omega arith)
     other false = not_same (λ e. omega arith)
 
-module _ {n : ℕ} {t : List ℕ} {x y : ℕ} (K : Climbable n t) (kx : NodeOf (tree_of n t) x) (ky : NodeOf (tree_of n t) y) where
+module _ {n : ℕ} {t : Table} {x y : ℕ} (K : Climbable n t) (kx : NodeOf (tree_of n t) x) (ky : NodeOf (tree_of n t) y) where
   abbrev T : Displayed
   T = tree_of n t
 
@@ -111,17 +108,13 @@ module _ {n : ℕ} {t : List ℕ} {x y : ℕ} (K : Climbable n t) (kx : NodeOf (
         (sym (up_is n t K c kc) ∙ from_c ∙ sym from_d ∙ up_is n t K d kd)
         (sym (up_is n t K e ke) ∙ f ∙ sym from_c ∙ up_is n t K c kc)
 
-    lateral_is : (e : ℕ) → NodeOf T e → same (lateral t e) 1 ≡ T.lateral e
-    lateral_is e ke = by_bool (T.lateral e)
-        (λ y. rw y (is_same (move_is n t K e ke ∙ rw y)))
-        (λ f. rw f (not_same (λ q. one_not_zero (sym q ∙ move_is n t K e ke ∙ rw f))))
-      where
-        one_not_zero : ◌≡◌ {A = ℕ} 1 0 → ⊥
-        one_not_zero q = omega arith
+    lateral_is : (e : ℕ) → lateral t e ≡ T.lateral e
+    unfolding tree_of tree_in
+    lateral_is e = by_bool (lateral t e) (λ y. rw y (sym (is_same {m = 1} refl))) (λ f. rw f (sym (not_same {m = 0} {n = 1} (λ q. omega arith))))
 
     pub sends_last : sent_by t c d ≡ sends T b
     unfolding sent_by
-    sends_last = rw (lateral_is c kc, lateral_is d kd) (by_bool (sends T b)
+    sends_last = rw (lateral_is c, lateral_is d) (by_bool (sends T b)
         (λ s. rw s (found (sends_is T b s)))
         (λ s. rw s (none (T.lateral c) (T.lateral d) (λ q. clash (is_sends T b (record { end = c; end_node = kc; on = q; from = from_c })) s)
         (λ q. clash (is_sends T b (record { end = d; end_node = kd; on = q; from = from_d })) s))))

@@ -1,7 +1,6 @@
 -- The products of a total: each is at most 99 times 16,129.
 -- Assumes nothing.
-use Prim.Native.Nat.{◌*◌, ◌≤◌}
-use native.Mathlib.Nat.{mul-le-mul}
+use Rattle.std.proofs.Common.{◌*◌, ◌≤◌, mul-le-mul}
 use Rattle.layout.specs.declared.Header.{Header}
 use Rattle.mapping.specs.inner.Evaluation.{Counted}
 use Rattle.mapping.specs.declared.Score.{Score}

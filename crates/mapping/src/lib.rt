@@ -6,7 +6,7 @@ ghost use Rattle.std.specs.Prelude.{◌≡◌, ℕ, ◌-◌, ◌≤◌};
 ghost use Rattle.finite.specs.Tests.{same, tally};
 ghost use Rattle.layout.specs.Events.{number};
 ghost use Rattle.layout.specs.Headers.{costs};
-ghost use Rattle.layout.specs.inner.Tree.{up as up_in, lateral as lateral_in};
+ghost use Rattle.layout.specs.inner.Tree.{up as up_in};
 ghost use Rattle.layout.specs.inner.Genes.{left as left_in, leaf as leaf_in, gene_tree};
 ghost use Rattle.layout.specs.inner.Results.{place as place_in, blank};
 ghost use Rattle.displayed.specs.Displayed.{NodeOf};
@@ -14,14 +14,14 @@ ghost use Rattle.mapping.specs.inner.Climbs.{fork_in, tree_of, Climbable, Light,
 ghost use Rattle.mapping.specs.inner.Pairs.{sent_by, event_by, Passable, passed_by, Paired};
 ghost use Rattle.mapping.specs.inner.Evaluation.{Family, Seats, seated_by, sent_to, noted_by, Room, raised_by, Upto, Counted, total_of, score_of, LeavesUpto, Lent, Evaluated};
 
+use layout::Header;
 use layout::events::Event;
 use layout::genes::Genes;
 use layout::results::Results;
-use layout::tree::{Tree, arcs, lateral, rank, up};
-use layout::{Header, genes};
+use layout::tree::Tree;
 
 // A way, climbed from its lower end: the transfers, the losses of a gene that passes every node above its lower end, and the arc climbed last, by its
-// lower end, 0 where none was.
+// lower end, 0 where none was, for which the tree has zeros, so that nothing asks.
 #[derive(Clone, Copy, Default)]
 pub struct Way {
     pub transfers: u32,
@@ -37,7 +37,7 @@ pub struct Met {
     pub right: Way,
 }
 
-// The transfers and losses on a gene's way.
+// The transfers and losses on a gene's way. (No part of `Way`, whose losses count the node at its upper end too, which a gene may not pass.)
 #[derive(Clone, Copy)]
 pub struct Steps {
     pub transfers: u32,
@@ -62,7 +62,7 @@ pub struct Score {
     pub cost: u32,
 }
 
-// 1 for a node that two on arcs leave.
+// 1 for a node that two on arcs leave, under a name that the laws cite.
 #[tactic(auto, unfolding(finite::specs::Tests::same))]
 fn fork(arcs: u32) -> u32
     ensures { (result ≡ tally (same arcs 2)) × (result ≤ 1) }
@@ -76,23 +76,24 @@ fn mark(t: &Tree, c: usize) -> u32
     requires { (c ≤ 127) × (up_in t.now c ≤ 127) }
     ensures { (result ≡ fork_in t.now (up_in t.now c)) × (result ≤ 1) }
 {
-    fork(arcs(t, up(t, c)))
+    fork(t.arcs[t.up[c] as usize])
 }
 
 // The way once the arc into a is climbed too.
 #[tactic(auto, unfolding(crate::specs::inner::Climbs::climbed_by))]
 fn climb(t: &Tree, w: Way, a: usize) -> Way
-    requires { (a ≤ 127) × (up_in t.now a ≤ 127) × (lateral_in t.now a ≤ 1) × Light w }
+    requires { (a ≤ 127) × (up_in t.now a ≤ 127) × Light w }
     ensures { result ≡ climbed_by t.now w a }
 {
     Way {
-        transfers: w.transfers + lateral(t, a),
+        transfers: w.transfers + u32::from(t.lateral[a]),
         losses: w.losses + mark(t, a),
         last: a,
     }
 }
 
 // The lowest node from which x and y are reached along on arcs, and the ways down to them: the climber that stands lower climbs.
+// (A `while`: two climbs that wait for one another count nothing and are no one iterator.)
 fn meet(n: usize, t: &Tree, x: usize, y: usize) -> Met
     requires { Climbable n t.now × NodeOf (tree_of n t.now) x × NodeOf (tree_of n t.now) y }
     ensures { Meeting (tree_of n t.now) x y result }
@@ -101,17 +102,17 @@ fn meet(n: usize, t: &Tree, x: usize, y: usize) -> Met
     let mut b = y;
     let mut left = Way::default();
     let mut right = Way::default();
-    let mut p = rank(t, x);
-    let mut q = rank(t, y);
+    let mut p = t.rank[x];
+    let mut q = t.rank[y];
     while a != b {
         if q <= p {
             left = climb(t, left, a);
-            a = up(t, a);
-            p = rank(t, a);
+            a = t.up[a] as usize;
+            p = t.rank[a];
         } else {
             right = climb(t, right, b);
-            b = up(t, b);
-            q = rank(t, b);
+            b = t.up[b] as usize;
+            q = t.rank[b];
         }
     }
     Met {
@@ -122,12 +123,12 @@ fn meet(n: usize, t: &Tree, x: usize, y: usize) -> Met
 }
 
 // Whether one of the two arcs is secondary.
-#[tactic(auto, unfolding(crate::specs::inner::Pairs::sent_by, finite::specs::Tests::same))]
+#[tactic(auto, unfolding(crate::specs::inner::Pairs::sent_by))]
 fn sends(t: &Tree, c: usize, d: usize) -> bool
     requires { (c ≤ 127) × (d ≤ 127) }
     ensures { result ≡ sent_by t.now c d }
 {
-    lateral(t, c) == 1 || lateral(t, d) == 1
+    t.lateral[c] || t.lateral[d]
 }
 
 // The event of a gene at b whose children sit at x and y: duplication where one sits at b, else transfer where an arc that they leave by is secondary.
@@ -224,8 +225,8 @@ fn seat_leaf(g: &Genes, r: &mut Results, k: usize)
     requires { (1 ≤ k) × (k ≤ 127) × (left_in g.now k ≡ 0 → leaf_in g.now k ≤ 127) × LeavesUpto g.now (k - 1) r.old }
     ensures { LeavesUpto g.now k r.new }
 {
-    if genes::left(g, k) == 0 {
-        seat(r, k, genes::leaf(g, k), Event::LeafGene);
+    if g.left[k] == 0 {
+        seat(r, k, g.leaf[k] as usize, Event::LeafGene);
     }
 }
 
@@ -258,11 +259,11 @@ fn gene(h: Header, t: &Tree, g: &Genes, r: &mut Results, k: usize, s: Score) -> 
     requires upto { Upto (tree_of h.nodes t.now) (gene_tree h.genes g.now) (costs h) k r.old s }
     ensures { Upto (tree_of h.nodes t.now) (gene_tree h.genes g.now) (costs h) (k - 1) r.new result }
 {
-    let a = genes::left(g, k);
+    let a = g.left[k] as usize;
     if a == 0 {
         return s;
     }
-    let b = genes::right(g, k);
+    let b = g.right[k] as usize;
     let p = inner(h.nodes, t, r, k, a, b);
     raise(h, s, p)
 }
@@ -278,7 +279,8 @@ fn total(h: Header, s: Score) -> Score
     r
 }
 
-// Every gene's place, event, transfers and losses, and the score, children before their parents.
+// Every gene's place, event, transfers and losses, and the score, children before their parents. (Header, tree, genes and results stay four parameters:
+// each function reads two or three of them and one writes, so that a struct of them would be made at each call.)
 pub fn evaluate(h: Header, t: &Tree, g: &Genes, r: &mut Results) -> Score
     requires { Family h t.now g.now × Lent (gene_tree h.genes g.now) r.old }
     ensures score { result ≡ score_of (tree_of h.nodes t.now) (gene_tree h.genes g.now) (costs h) }

@@ -1,12 +1,7 @@
 -- What the refusals that did not apply say of the network. 6, 7 and 8 together make the rank rise along every arc: a principal arc raises the
 -- stamp; a secondary arc keeps it, leads into a reticulation and leaves a node that is none, since a reticulation's only arc out is principal.
 -- Assumes nothing.
-use mathlib.Core.Path.{◌≡◌, refl}
-use mathlib.Core.Logic.{◌≢◌}
-use mathlib.Core.Bool.{true, false, not}
-use mathlib.Core.List.{List, []}
-use Prim.Native.Nat.{ℕ, ◌≤◌, ◌<◌}
-use native.Mathlib.Omega.{arith}
+use Rattle.std.proofs.Common.{◌≡◌, ◌≢◌, ℕ, ◌≤◌, ◌<◌, [], true, false, not, refl, arith}
 use Rattle.finite.specs.Tests.{same}
 use Rattle.finite.specs.Range.{any, every, children}
 use Rattle.finite.specs.Refusals.{verdict}
@@ -20,6 +15,7 @@ use Rattle.finite.proofs.Refusals.{verdict_none}
 use Rattle.topology.specs.Networks.{Node, Sound}
 use Rattle.topology.specs.Lines.{NodeLines, rank_of, network}
 use Rattle.topology.proofs.Lines.{rank_none, rank_is, rank_some, node_of, node_high}
+use Rattle.layout.specs.declared.lines.NodeColumns.{NodeColumns}
 use Rattle.layout.specs.Lines.{nodes_in}
 use Rattle.shapes.specs.Refusals.{refusal8, IsLeaf, Shape, reticulation, inner, leaf, shapeless_at, refusal9, Refusal9, leaf_without, other_with_lem, two_alike, child_at, reticulation_if_child, only_reticulations_at, refusal10, Child, by_principal, by_secondary, after_eight, shape_refusals}
 use Rattle.shapes.proofs.Readings.{shape_at, reading_9, child_is, is_child}
@@ -165,7 +161,7 @@ module _ (L : NodeLines) where
           no_9 : ¬ (Refusal9 L)
           no_9 r = clash ((reading_9 L).1 r) z.nine
 
--- in the lines of an array a number that is no node has no parents
+-- in the columns a number that is no node has no parents
 -- lines that have parents within 1..n alone
 pub none_outside : (n : ℕ) (p q x s : ℕ → ℕ) → NoOthers (record { size = n; principal = within n p; secondary = within n q; stamp = x; species = s })
 none_outside n p q x s = record {
@@ -175,6 +171,6 @@ none_outside n p q x s = record {
   out_secondary = within_out n q;
 }
 
-pub no_others : (n : ℕ) (l : List ℕ) → NoOthers (nodes_in n l)
+pub no_others : (n : ℕ) (l : NodeColumns) → NoOthers (nodes_in n l)
 unfolding nodes_in
 no_others n l = none_outside n _ _ _ _

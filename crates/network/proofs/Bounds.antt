@@ -1,8 +1,7 @@
 -- An accepted network has fewer reticulations than half its nodes: by its shape each node has as many principal arcs out as secondary ones, and one
 -- more if it is a reticulation; and each node but the root has one principal parent.
 -- Assumes nothing.
-use Prim.Native.Nat.{ℕ, ◌+◌, ◌*◌, ◌≤◌, ◌<◌}
-use native.Mathlib.Omega.{arith}
+use Rattle.std.proofs.Common.{ℕ, ◌+◌, ◌*◌, ◌≤◌, ◌<◌, arith}
 use Rattle.finite.specs.Tests.{tally}
 use Rattle.finite.specs.Range.{count, children}
 use Rattle.finite.proofs.Tests.{is_same, not_same}

@@ -1,11 +1,7 @@
 -- Each refusal's test says what 01 says: from the test to its reading by the clause that passed, and back clause by clause. So the verdict of the list
 -- tells the first refusal that applies (`network_tells`).
 -- Assumes nothing.
-use mathlib.Core.Path.{◌≡◌}
-use mathlib.Core.Logic.{◌≢◌, ◌↔◌}
-use mathlib.Core.Bool.{true, not, ◌&&◌}
-use Prim.Native.Nat.{ℕ}
-use native.Mathlib.Omega.{arith}
+use Rattle.std.proofs.Common.{◌≡◌, ◌≢◌, ◌↔◌, true, not, ◌&&◌, ℕ, arith}
 use Rattle.finite.specs.Tests.{same, under}
 use Rattle.finite.specs.Range.{any, children}
 use Rattle.finite.specs.Refusals.{AllTell, one_more}

@@ -3,9 +3,9 @@
 
 mod parents;
 
-ghost use Rattle.std.specs.Prelude.{◌≡◌, ◌≤◌};
+ghost use Rattle.std.specs.Prelude.{◌≡◌};
 ghost use Rattle.finite.specs.Refusals.{verdict};
-ghost use Rattle.layout.specs.Lines.{nodes_in};
+ghost use Rattle.layout.specs.Lines.{nodes_of};
 ghost use Rattle.refusals.specs.Numbers.{refused};
 ghost use Rattle.network.specs.Refusals.{network_refusals};
 
@@ -15,15 +15,14 @@ use refusals::Refusal;
 
 // The first refusal of 6 to 10 that applies. 7 reads the stamps of the parents: 6 has passed, so they are nodes.
 #[tactic(auto, using(finite::proofs::Refusals::verdict_laws), unfolding(crate::specs::Refusals::network_refusals, crate::specs::Refusals::after_six))]
-pub fn verdict(n: usize, lines: &Lines) -> Result<(), Refusal>
-    requires { n ≤ 127 }
-    ensures { refused result ≡ verdict (network_refusals (nodes_in n lines.now)) }
+pub fn verdict(lines: &Lines) -> Result<(), Refusal>
+    ensures { refused result ≡ verdict (network_refusals (nodes_of lines.now)) }
 {
-    if six(n, lines) {
+    if six(lines) {
         return Err(Refusal::BadParents);
     }
-    if seven(n, lines) {
+    if seven(lines) {
         return Err(Refusal::BadStamps);
     }
-    shapes::verdict(n, lines)
+    shapes::verdict(lines)
 }

@@ -8,17 +8,18 @@ use Rattle.finite.specs.Refusals.{verdict, AllTell, no_more, one_more}
 use Rattle.finite.proofs.Cases.{by_bool}
 use Rattle.finite.proofs.Tests.{same_is, is_same, not_same, same_not, is_under, not_under, under_is, under_not}
 use Rattle.finite.proofs.Refusals.{tell}
+use Rattle.layout.specs.declared.lines.GeneColumns.{GeneColumns}
 use Rattle.newick.specs.Trees.{Tree, spelled, text_of, HasText, OfGrammar, genes}
 use Rattle.newick.specs.Reading.{byte_at, Found, found, tree_at, answer_to, answer_of}
 use Rattle.newick.specs.Answers.{Taken, Refusal14, Refusal15, TooMany, refusal_of, text_refusals, Says, Promise}
 use Rattle.newick.specs.Answers.Refusal15.{longer, many}
-use Rattle.newick.specs.inner.Steps.{passed, Kept, Outcome}
+use Rattle.newick.specs.inner.Steps.{passed, Outcome}
 use Rattle.newick.specs.declared.Place.{Place}
 use Rattle.newick.specs.declared.Unreadable.{Unreadable}
 use Rattle.newick.specs.declared.Unreadable.TheVariants.{Outside, Long, Many}
 use Rattle.newick.proofs.Places.{front, past, opens}
 use Rattle.newick.proofs.Turns.{Told, told, told_none, told_kept, Next, did_pass, not_passed}
-use Rattle.newick.proofs.Writing.{kept_same, nodes_kept, genes_in_lem}
+use Rattle.newick.proofs.Writing.{kept_tree, genes_in_lem}
 use Rattle.newick.proofs.Readings.{sound, reads, one_found, one_tree, length_text}
 
 -- where the text of a tree ends
@@ -120,28 +121,28 @@ module _ (text : List ℕ) where
   text_verdict = verdict_by (answer_of text)
 
 -- the returns
-promised : (text : List ℕ) (n : ℕ) (l k : List ℕ) (a : Result ℕ Unreadable) → Kept n l k → a ≡ answer_of text → (Means text a → Says text n l k a) → Promise text n l k a
-promised text n l k a h e f = record { says = f (rw e (decided text)); answer_is = e; nodes_kept = nodes_kept n l k h; length_kept = h.long }
+promised : (text : List ℕ) (b c : GeneColumns) (a : Result ℕ Unreadable) → a ≡ answer_of text → (Means text a → Says text b c a) → Promise text b c a
+promised text b c a e f = record { says = f (rw e (decided text)); answer_is = e }
 
-pub answer_long : (text : List ℕ) (n : ℕ) (l : List ℕ) → 574 < length text → Promise text n l l (Err Long)
+pub answer_long : (text : List ℕ) (b : GeneColumns) → 574 < length text → Promise text b b (Err Long)
 unfolding answer_of Means
-answer_long text n l h = promised text n l l (Err Long) (kept_same n l) (rw (is_under h)) (λ m. (m, refl))
+answer_long text b h = promised text b b (Err Long) (rw (is_under h)) (λ m. (m, refl))
 
-module _ (text : List ℕ) (n : ℕ) (l k : List ℕ) (short : length text ≤ 574) where
+module _ (text : List ℕ) (b c : GeneColumns) (short : length text ≤ 574) where
   -- where the text is outside the grammar
-  outside_by : (r : Option Place) → Outcome (tree_at text 0) 0 0 n l r k → answer_to text (tree_at text 0) ≡ Err Outside → Promise text n l k (Err Outside)
+  outside_by : (r : Option Place) → Outcome (tree_at text 0) 0 0 b r c → answer_to text (tree_at text 0) ≡ Err Outside → Promise text b c (Err Outside)
   unfolding answer_of Means
-  outside_by r o e = promised text n l k (Err Outside) (told_kept 0 0 n l k (tree_at text 0) r o) (rw (not_under short, e)) (λ m. m)
+  outside_by r o e = promised text b c (Err Outside) (rw (not_under short, e)) (λ m. (m, told_kept 0 0 b c (tree_at text 0) r o))
 
-  pub answer_none : Outcome (tree_at text 0) 0 0 n l None k → Promise text n l k (Err Outside)
+  pub answer_none : Outcome (tree_at text 0) 0 0 b None c → Promise text b c (Err Outside)
   unfolding answer_to
-  answer_none o = outside_by None o (rw (told_none 0 0 n l k (tree_at text 0) o))
+  answer_none o = outside_by None o (rw (told_none 0 0 b c (tree_at text 0) o))
 
-  module _ (tree : Place) (o : Outcome (tree_at text 0) 0 0 n l (Some tree) k) where
-    x : Told (tree_at text 0) 0 0 n l tree k
-    x = told 0 0 n l k (tree_at text 0) tree o
+  module _ (tree : Place) (o : Outcome (tree_at text 0) 0 0 b (Some tree) c) where
+    x : Told (tree_at text 0) 0 0 b tree c
+    x = told 0 0 b c (tree_at text 0) tree o
 
-    pub answer_unended : None ≡ passed text 59 tree → Promise text n l k (Err Outside)
+    pub answer_unended : None ≡ passed text 59 tree → Promise text b c (Err Outside)
     unfolding answer_to
     answer_unended e = outside_by (Some tree) o (rw (x.found_is, not_passed text 59 tree e))
 
@@ -149,7 +150,7 @@ module _ (text : List ℕ) (n : ℕ) (l k : List ℕ) (short : length text ≤ 5
       next : Next text 59 tree end
       next = did_pass text 59 tree end e
 
-      pub answer_longer : (end.at ≡ length text → ⊥) → Promise text n l k (Err Outside)
+      pub answer_longer : (end.at ≡ length text → ⊥) → Promise text b c (Err Outside)
       unfolding answer_to
       answer_longer d =
           let z : same (suc tree.at) (length text) ≡ false = not_same (λ h. d (omega (arith, next.at_is))) in
@@ -162,19 +163,16 @@ module _ (text : List ℕ) (n : ℕ) (l k : List ℕ) (short : length text ≤ 5
         count : genes x.tree ≡ end.genes
         count = omega (arith, x.all_is, next.genes_is)
 
-        kept : Kept n l k
-        kept = told_kept 0 0 n l k (tree_at text 0) (Some tree) o
-
-        pub answer_many : 127 < end.genes → Promise text n l k (Err Many)
+        pub answer_many : 127 < end.genes → Promise text b c (Err Many)
         unfolding answer_of answer_to Means
         answer_many h =
             let u : under 127 (genes x.tree) ≡ true = is_under (omega (arith, count)) in
-            promised text n l k (Err Many) kept (rw (not_under short, x.found_is, next.test, z, u)) (λ m. m)
+            promised text b c (Err Many) (rw (not_under short, x.found_is, next.test, z, u)) (λ m. (m, told_kept 0 0 b c (tree_at text 0) (Some tree) o))
 
-        pub answer_genes : n ≤ 127 → length l ≡ 1280 → end.genes ≤ 127 → Promise text n l k (Ok end.genes)
+        pub answer_genes : end.genes ≤ 127 → Promise text b c (Ok end.genes)
         unfolding answer_of answer_to Means
-        answer_genes ln long h =
+        answer_genes h =
             let u : under 127 (genes x.tree) ≡ false = not_under (omega (arith, count)) in
-            promised text n l k (Ok end.genes) kept (rw (not_under short, x.found_is, next.test, z, u, count)) (λ m.
+            promised text b c (Ok end.genes) (rw (not_under short, x.found_is, next.test, z, u, count)) (λ m.
             let q : m.tree ≡ x.tree = one_found (found_text text m.tree m.has_text) x.found_is in
-            (m, rw q (genes_in_lem x.tree l k n end.genes ln count h long x.lines_are)))
+            (m, rw q (genes_in_lem x.tree b c end.genes count x.lines_are h x.whole), kept_tree x.tree b c end.genes count x.lines_are))

@@ -1,26 +1,35 @@
 -- The turns and the returns of the code that reads a species number, over plain values: `leaf_at` and `more_at` go by the digit that the code has found,
 -- and k digits make a number below 10 ^ k.
 -- Assumes nothing.
-use Rattle.std.proofs.Common.{ℕ, zero, suc, ◌+◌, ◌-◌, ◌*◌, ◌^◌, ◌≤◌, ◌<◌, ◌≡◌, ◌≢◌, true, false, List, Option, Some, None, refl, ◌⊎◌, ⊎_elim, add-one, arith}
+use Rattle.std.proofs.Common.{ℕ, zero, suc, ◌+◌, ◌-◌, ◌*◌, ◌^◌, ◌≤◌, ◌<◌, ◌≡◌, ◌≢◌, true, false, List, Option, Some, None, MatchOption, IfSome, refl, ⊎_elim, add-one, arith}
 use Rattle.std.proofs.Math.Nat.{pow-suc, pow-le-pow_right}
+use Rattle.std.specs.Char.{IsDigitOf, NotDecimalDigitIn}
 use Rattle.finite.proofs.Cases.{by_bool}
 use Rattle.newick.specs.Reading.{byte_at, digit_from, number, more_at, leaf_at}
 use Rattle.newick.specs.inner.Steps.{digit_at}
 use Rattle.newick.specs.declared.Numeral.{Numeral}
-use Rattle.newick.proofs.Places.{digit_low, digit_high, digit_yes, digit_less, digit_more}
+use Rattle.newick.proofs.Places.{digit_low, digit_high, digit_yes, digit_less}
 
 pub ten_five : (k : ℕ) → k < 6 → 10 ^ k ≤ 100000
 ten_five k h = pow-le-pow_right {n = 10} (omega arith) {i = k} {j = 5} (omega arith)
 
 -- the byte b at a place is a digit, or none
 module _ (text : List ℕ) (at b : ℕ) (e : b ≡ byte_at text at) where
-  pub digit_here : (48 ≤ b) × (b ≤ 57) → Some (b - 48) ≡ digit_at text at
+  digit_here : (48 ≤ b) → (b ≤ 57) → Some (b - 48) ≡ digit_at text at
   unfolding digit_at
-  digit_here h = rw (← e, digit_yes 48 b h.0 (omega arith))
+  digit_here l u = rw (← e, digit_yes 48 b l (omega arith))
 
-  pub no_digit_here : (b < 48) ⊎ (57 < b) → None ≡ digit_at text at
+  pub no_digit_here : (48 ≤ b → b ≤ 57 → 58 ≤ b) → None ≡ digit_at text at
   unfolding digit_at
-  no_digit_here h = rw (← e, ⊎_elim (λ l. digit_less 48 b l) (λ u. digit_more 48 b (omega arith)) h)
+  no_digit_here h = rw (← e) (by_bool (digit_from 48 b)
+      (λ y. let low = digit_low 48 b y in let high = digit_high 48 b y in absurd (omega (arith, high, h low (omega (arith, high)))))
+      (λ y. rw y))
+
+  pub as_digit : (r : Option ℕ) → MatchOption r (NotDecimalDigitIn 10 b) (IsDigitOf b) → IfSome r (λ d. d ≤ 9) → r ≡ digit_at text at
+  as_digit (Some d) h f =
+      ⊎_elim (λ x. let q : d ≡ b - 48 = omega (arith, x.1) in rw q (digit_here x.0.0 x.0.1))
+      (λ y. ⊎_elim (λ x. absurd (omega (arith, f, x.0.0, x.1))) (λ x. absurd (omega (arith, f, x.0.0, x.1))) y) h
+  as_digit None h f = no_digit_here h
 
 -- a digit that was found, and none
 pub record Digit (text : List ℕ) (at d : ℕ) : Type 0 where

@@ -1,10 +1,12 @@
 -- What the reader of a text answers and leaves (02, (i)): refusals 14 and 15, and what each case of the answer says.
 -- Assumes nothing.
-use Rattle.std.specs.Prelude.{ℕ, ◌≤◌, ◌<◌, ◌≡◌, List, [], ◌∷◌, length, Result, Ok, Err}
+use Rattle.std.specs.Prelude.{ℕ, ◌≤◌, ◌<◌, ◌≡◌, ◌⊎◌, List, [], ◌∷◌, length, Result, Ok, Err}
 use Rattle.finite.specs.Tests.{same}
+use Rattle.finite.specs.Tables.{at}
 use Rattle.finite.specs.Refusals.{Refusal}
-use Rattle.layout.specs.Lines.{nodes_in, genes_in}
-use Rattle.newick.specs.Trees.{Tree, HasText, OfGrammar, genes, gene_lines_of}
+use Rattle.layout.specs.Lines.{genes_in}
+use Rattle.layout.specs.declared.lines.GeneColumns.{GeneColumns}
+use Rattle.newick.specs.Trees.{Tree, GeneLine, HasText, OfGrammar, genes, gene_lines_of}
 use Rattle.newick.specs.Reading.{answer_of}
 use Rattle.newick.specs.declared.Unreadable.{Unreadable}
 use Rattle.newick.specs.declared.Unreadable.TheVariants.{Outside, Long, Many}
@@ -47,19 +49,24 @@ text_refusals text =
     record { number = 14; test = same (refusal_of (answer_of text)) 14; condition = Refusal14 text }
     ∷ record { number = 15; test = same (refusal_of (answer_of text)) 15; condition = Refusal15 text } ∷ []
 
--- what each case of the answer says of the text, and of the lines of a sheet of n nodes before and after the call: the lines of the genes are those of
--- the tree that the text is of
-abbrev pub Says : (text : List ℕ) (n : ℕ) (lines lines_after : List ℕ) → Result ℕ Unreadable → Type 0
-Says text n lines lines_after (Ok m) = (t : Taken text m) × (genes_in n m lines_after ≡ gene_lines_of t.tree)
-Says text n lines lines_after (Err Outside) = Refusal14 text
-Says text n lines lines_after (Err Long) = (574 < length text) × (lines_after ≡ lines)
-Says text n lines lines_after (Err Many) = TooMany text
+-- what the columns of the genes have of gene g
+abbrev pub line_in : GeneColumns → ℕ → GeneLine
+line_in c g = record { parent = at c.parent g; species = at c.species g }
+
+-- the columns c have of every number but the genes 1 to m what b have
+pub record Kept (m : ℕ) (b c : GeneColumns) : Type 0 where
+  pub others : (g : ℕ) → (g ≡ 0) ⊎ (m < g) → line_in c g ≡ line_in b g
+
+-- what each case of the answer says of the text, and of the columns of the genes before and after the call: the lines of the genes are those of the tree
+-- that the text is of, and nothing else is written
+abbrev pub Says : (text : List ℕ) (before after : GeneColumns) → Result ℕ Unreadable → Type 0
+Says text before after (Ok m) = (t : Taken text m) × (genes_in m after ≡ gene_lines_of t.tree) × Kept m before after
+Says text before after (Err Outside) = Refusal14 text × Kept 127 before after
+Says text before after (Err Long) = (574 < length text) × (after ≡ before)
+Says text before after (Err Many) = TooMany text × Kept 127 before after
 
 -- the promise of the reader
-pub record Promise (text : List ℕ) (n : ℕ) (lines lines_after : List ℕ) (answer : Result ℕ Unreadable) : Type 0 where
-  pub says : Says text n lines lines_after answer
+pub record Promise (text : List ℕ) (before after : GeneColumns) (answer : Result ℕ Unreadable) : Type 0 where
+  pub says : Says text before after answer
   -- the answer as an equation that computes
   pub answer_is : answer ≡ answer_of text
-  -- the network lines stay as they were
-  pub nodes_kept : nodes_in n lines_after ≡ nodes_in n lines
-  pub length_kept : length lines_after ≡ length lines

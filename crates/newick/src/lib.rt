@@ -4,12 +4,11 @@
 ghost use Rattle.std.specs.Prelude.{◌≡◌, ◌+◌, ◌≤◌, ◌<◌, length, IfSome, OnSome};
 ghost use Rattle.newick.specs.Reading.{leaf_at, tree_at, pair_at};
 ghost use Rattle.newick.specs.Answers.{Promise};
-ghost use Rattle.newick.specs.inner.Steps.{digit_at, passed, entered, Outcome};
+ghost use Rattle.newick.specs.inner.Steps.{digit_at, passed, Whole, entered, Outcome};
 
-use layout::lines::{GENE_PARENT, GENE_SPECIES, Lines};
-use text_lines::FIELDS;
+use layout::lines::GeneColumns;
 
-// The most genes that the lines have room for, and the longest text of a tree of so many.
+// The most genes that the columns have room for, and the longest text of a tree of so many.
 const GENES: usize = 127;
 
 const LONGEST: usize = 574;
@@ -29,40 +28,6 @@ struct Numeral {
     next: usize,
 }
 
-// What the digit at a place counts for.
-fn digit(text: &[u8], at: usize) -> Option<u32>
-    ensures value { result ≡ digit_at text.now at }
-    ensures few { IfSome result (λ d. d ≤ 9) }
-    ensures within { OnSome result (at < length text.now) }
-{
-    let b = *text.get(at)?;
-    if !b.is_ascii_digit() {
-        return None;
-    }
-    Some(u32::from(b - b'0'))
-}
-
-// The species number at a place.
-fn read_numeral(text: &[u8], at: usize) -> Option<Numeral>
-    ensures value { result ≡ leaf_at text.now at }
-    ensures within { OnSome result (at < length text.now) }
-{
-    let mut species = digit(text, at)?;
-    if species == 0 {
-        return None;
-    }
-    for next in at + 1..at + 6 {
-        let Some(d) = digit(text, next) else {
-            return Some(Numeral { species, next });
-        };
-        species = species * 10 + d;
-    }
-    Some(Numeral {
-        species,
-        next: at + 6,
-    })
-}
-
 // A place in a text, and how many genes have been met before it.
 #[derive(Clone, Copy)]
 struct Place {
@@ -70,15 +35,56 @@ struct Place {
     genes: usize,
 }
 
-// A text, and how many nodes have their lines before those of its genes.
+// Writes a gene's parent and species, where the columns have room for it.
+fn enter(own: usize, up: usize, species: u32, genes: &mut GeneColumns)
+    requires { up < own }
+    ensures written { genes.new ≡ entered genes.old own up species }
+    ensures whole { Whole genes.old }
+{
+    if own <= GENES {
+        genes.parent[own] = up as u32;
+        genes.species[own] = species;
+    }
+}
+
+// The reader of a text.
 #[derive(Clone, Copy)]
 struct Reader<'a> {
     text: &'a [u8],
-    nodes: usize,
-    ghost few_nodes: { nodes ≤ 127 },
 }
 
 impl Reader<'_> {
+    // What the digit at a place counts for.
+    fn digit(&self, at: usize) -> Option<u32>
+        ensures value { result ≡ digit_at self.now.text.now at }
+        ensures few { IfSome result (λ d. d ≤ 9) }
+        ensures within { OnSome result (at < length self.now.text.now) }
+    {
+        let b = *self.text.get(at)?;
+        char::from(b).to_digit(10)
+    }
+
+    // The species number at a place.
+    fn read_numeral(&self, at: usize) -> Option<Numeral>
+        ensures value { result ≡ leaf_at self.now.text.now at }
+        ensures within { OnSome result (at < length self.now.text.now) }
+    {
+        let mut species = self.digit(at)?;
+        if species == 0 {
+            return None;
+        }
+        for next in at + 1..at + 6 {
+            let Some(d) = self.digit(next) else {
+                return Some(Numeral { species, next });
+            };
+            species = species * 10 + d;
+        }
+        Some(Numeral {
+            species,
+            next: at + 6,
+        })
+    }
+
     // The place behind a byte, where that is the next one.
     fn pass(&self, from: Place, b: u8) -> Option<Place>
         requires { 1 ≤ b }
@@ -93,31 +99,19 @@ impl Reader<'_> {
         })
     }
 
-    // Writes a gene's parent and species, where the lines have room for it.
-    fn enter(&self, own: usize, up: usize, species: u32, lines: &mut Lines)
-        requires { up < own }
-        ensures { lines.new ≡ entered lines.old self.now.nodes own up species }
-    {
-        if own <= GENES {
-            let line = FIELDS * (self.nodes + own);
-            lines[line + GENE_PARENT] = up as u32;
-            lines[line + GENE_SPECIES] = species;
-        }
-    }
-
-    // The tree at a place.
+    // The tree at a place. (The columns are a parameter and no field of the reader: contracts speak of them before and after the call.)
     #[cycle(pair_tree)]
-    fn tree(&self, from: Place, up: usize, lines: &mut Lines) -> Option<Place>
+    fn tree(&self, from: Place, up: usize, genes: &mut GeneColumns) -> Option<Place>
         requires apart { from.genes ≤ from.at }
         requires met { up ≤ from.genes }
-        ensures { Outcome (tree_at self.now.text.now from.at) from.genes up self.now.nodes lines.old result lines.new }
+        ensures { Outcome (tree_at self.now.text.now from.at) from.genes up genes.old result genes.new }
     {
         if let Some(inside) = self.pass(from, b'(') {
-            return self.pair(inside, up, lines);
+            return self.pair(inside, up, genes);
         }
-        let Numeral { species, next } = read_numeral(self.text, from.at)?;
+        let Numeral { species, next } = self.read_numeral(from.at)?;
         let own = from.genes + 1;
-        self.enter(own, up, species, lines);
+        enter(own, up, species, genes);
         Some(Place {
             at: next,
             genes: own,
@@ -126,31 +120,30 @@ impl Reader<'_> {
 
     // The pair at a place after its bracket.
     #[cycle(pair_tree)]
-    fn pair(&self, from: Place, up: usize, lines: &mut Lines) -> Option<Place>
+    fn pair(&self, from: Place, up: usize, genes: &mut GeneColumns) -> Option<Place>
         requires apart { from.genes < from.at }
         requires met { up ≤ from.genes }
-        ensures { Outcome (pair_at self.now.text.now from.at) from.genes up self.now.nodes lines.old result lines.new }
+        ensures { Outcome (pair_at self.now.text.now from.at) from.genes up genes.old result genes.new }
     {
         let own = from.genes + 1;
-        self.enter(own, up, 0, lines);
-        let left = self.tree(Place { genes: own, ..from }, own, lines)?;
+        enter(own, up, 0, genes);
+        let left = self.tree(Place { genes: own, ..from }, own, genes)?;
         let comma = self.pass(left, b',')?;
-        let right = self.tree(comma, own, lines)?;
+        let right = self.tree(comma, own, genes)?;
         self.pass(right, b')')
     }
 }
 
-// Reads a whole text, and puts the parents and the species of its genes into the gene lines of a sheet of n nodes.
-pub fn read(text: &[u8], n: usize, lines: &mut Lines) -> Result<usize, Unreadable>
-    requires { n ≤ 127 }
-    ensures { Promise text.now n lines.old lines.new result }
+// Reads a whole text, and puts the parents and the species of its genes into their columns.
+pub fn read(text: &[u8], genes: &mut GeneColumns) -> Result<usize, Unreadable>
+    ensures { Promise text.now genes.old genes.new result }
 {
     if text.len() > LONGEST {
         return Err(Unreadable::Long);
     }
-    let reader = Reader { text, nodes: n };
+    let reader = Reader { text };
     let tree = reader
-        .tree(Place { at: 0, genes: 0 }, 0, lines)
+        .tree(Place { at: 0, genes: 0 }, 0, genes)
         .ok_or(Unreadable::Outside)?;
     let end = reader.pass(tree, b';').ok_or(Unreadable::Outside)?;
     if end.at != text.len() {

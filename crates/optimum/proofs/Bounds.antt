@@ -1,9 +1,7 @@
 -- The report's six columns hold what the search finds: the chosen switching costs no more than the all-principal one, which has no transfers; the
 -- counts are bounded for every switching; and a component with k reticulations has no more than 32 k trials.
 -- Assumes nothing.
-use mathlib.Core.Bool.{◌&&◌}
-use Prim.Native.Nat.{ℕ, zero, suc, ◌+◌, ◌*◌, ◌^◌, ◌≤◌, ◌<◌}
-use native.Mathlib.Omega.{arith}
+use Rattle.std.proofs.Common.{◌&&◌, ℕ, zero, suc, ◌+◌, ◌*◌, ◌^◌, ◌≤◌, ◌<◌, arith}
 use Rattle.finite.specs.Tests.{same, tally}
 use Rattle.finite.specs.Range.{sum, count}
 use Rattle.finite.proofs.Cases.{by_eq}

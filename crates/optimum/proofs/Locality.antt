@@ -1,7 +1,6 @@
 -- The last-common-ancestor cost is local: displayed trees are alike at v where the switchings agree in v's component, so v is charged the same.
 -- Assumes nothing.
-use Prim.Native.Nat.{ℕ}
-use native.Mathlib.Omega.{arith}
+use Rattle.std.proofs.Common.{ℕ, arith}
 use Rattle.topology.specs.Networks.{Network, Sound}
 use Rattle.topology.specs.Switchings.{Switching}
 use Rattle.reconciliation.specs.GeneTrees.{GeneTree, Rooted, Seated}

@@ -1,10 +1,8 @@
 -- The search machine. Each t below the number of trials is one setting of one component (`locate`), which the machine finds from its count; so after t
 -- steps the count is t and a component's best is the first least of those of its settings that are among the t scored.
 -- Assumes nothing.
-use mathlib.Core.Path.{◌≡◌, refl, sym, ◌∙◌, ap, fun_ext}
-use mathlib.Core.Logic.{◌≢◌, ◌↔◌}
-use Prim.Native.Nat.{ℕ, zero, suc, ◌+◌, ◌-◌, ◌≤◌, ◌<◌, min}
-use native.Mathlib.Omega.{arith}
+use mathlib.Core.Path.{fun_ext}
+use Rattle.std.proofs.Common.{◌≡◌, refl, sym, ◌∙◌, ap, ◌≢◌, ◌↔◌, ℕ, zero, suc, ◌+◌, ◌-◌, ◌≤◌, ◌<◌, min, arith}
 use Rattle.finite.specs.Range.{sum}
 use Rattle.finite.specs.Least.{first_least}
 use Rattle.finite.proofs.Cases.{by_eq, by_less}

@@ -2,11 +2,8 @@
 -- network and is the first of those that cost as little. Every choice in a component is one of its settings, in order, so the settings tried are
 -- enough for the component, and separability makes them enough for the network.
 -- Assumes nothing.
-use mathlib.Core.Path.{◌≡◌, refl, sym, ◌∙◌}
-use mathlib.Core.Logic.{◌↔◌}
-use Prim.Native.Nat.{ℕ, ◌+◌, ◌*◌, ◌^◌, ◌≤◌, ◌<◌}
+use Rattle.std.proofs.Common.{◌≡◌, refl, sym, ◌∙◌, ◌↔◌, ℕ, ◌+◌, ◌*◌, ◌^◌, ◌≤◌, ◌<◌, arith}
 use native.Mathlib.Nat.{one-le-pow}
-use native.Mathlib.Omega.{arith}
 use Rattle.finite.specs.Range.{sum}
 use Rattle.finite.proofs.Cases.{by_eq, by_less}
 use Rattle.finite.proofs.Sum.{sum_same, sum_add, sum_mul}

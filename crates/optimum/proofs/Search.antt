@@ -1,10 +1,8 @@
 -- The search over a network's components: the turns of its two loops on the bests and a count, and its last state, whose bests are each
 -- component's first least setting. So what the table holds when no setting is left is the switching of demand 3.
 -- Assumes nothing.
-use mathlib.Core.Path.{◌≡◌, ◌∙◌, ap, fun_ext}
-use Prim.Native.Nat.{ℕ, zero, suc, ◌+◌, ◌≤◌, ◌<◌}
-use native.Mathlib.Numerals.{add-one}
-use native.Mathlib.Omega.{arith}
+use mathlib.Core.Path.{fun_ext}
+use Rattle.std.proofs.Common.{◌≡◌, ◌∙◌, ap, ℕ, zero, suc, ◌+◌, ◌≤◌, ◌<◌, add-one, arith}
 use Rattle.finite.specs.Range.{sum}
 use Rattle.finite.specs.Least.{first_least}
 use Rattle.finite.proofs.Cases.{by_eq}

@@ -2,11 +2,8 @@
 -- changes the cost as it does with all other parts false, so the cost never rises. At equal cost every part was least, so the first difference of
 -- the whole is the first difference of its part.
 -- Assumes nothing.
-use mathlib.Core.Path.{◌≡◌, refl, sym, ◌∙◌, ap}
-use mathlib.Core.Logic.{◌≢◌, ◌↔◌}
-use mathlib.Core.Bool.{false, cond, Bool-discrete}
-use Prim.Native.Nat.{ℕ, zero, suc, ◌+◌, ◌≤◌, ◌<◌}
-use native.Mathlib.Omega.{arith}
+use Rattle.std.proofs.Common.{◌≡◌, refl, sym, ◌∙◌, ap, ◌≢◌, ◌↔◌, false, cond, ℕ, zero, suc, ◌+◌, ◌≤◌, ◌<◌, arith}
+use mathlib.Core.Bool.{Bool-discrete}
 use Rattle.finite.specs.Tests.{under}
 use Rattle.finite.specs.Range.{sum}
 use Rattle.finite.proofs.Cases.{by_eq, by_order, clash}

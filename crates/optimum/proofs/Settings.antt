@@ -1,12 +1,8 @@
 -- Settings of a component by number. A switching writes a number at the places of d, the lowest place being the highest digit; dividing by a power of
 -- two picks a digit out again, so numbers below 2^k and settings of k places correspond, and the order of numbers is the order by first difference.
 -- Assumes nothing.
-use mathlib.Core.Path.{◌≡◌, refl, sym, ◌∙◌, ap}
-use mathlib.Core.Logic.{◌≢◌, ◌↔◌}
-use mathlib.Core.Bool.{Bool, true, false, cond, ◌&&◌}
-use Prim.Native.Nat.{ℕ, zero, suc, ◌+◌, ◌*◌, ◌^◌, ◌/◌, ◌%◌, ◌≤◌, ◌<◌}
-use native.Mathlib.Nat.{pow-zero, pow-suc, pow-succ', div-one, zero-div, div-div-eq-div-mul}
-use native.Mathlib.Omega.{arith}
+use Rattle.std.proofs.Common.{◌≡◌, refl, sym, ◌∙◌, ap, ◌≢◌, ◌↔◌, Bool, true, false, cond, ◌&&◌, ℕ, zero, suc, ◌+◌, ◌*◌, ◌^◌, ◌/◌, ◌%◌, ◌≤◌, ◌<◌, pow-suc, div-one, arith}
+use native.Mathlib.Nat.{pow-zero, pow-succ', zero-div, div-div-eq-div-mul}
 use Rattle.finite.specs.Tests.{same, under, tally}
 use Rattle.finite.specs.Range.{count}
 use Rattle.finite.proofs.Cases.{by_bool, by_eq, by_order, by_less, clash}

@@ -20,6 +20,11 @@ pub(crate) struct Counts {
 }
 
 impl Counts {
+    // No sheet could be made.
+    pub(crate) fn add_unmade(&mut self) {
+        self.mismatches += 1;
+    }
+
     // A refusal leaves result and scratch as they were.
     pub(crate) fn add_refusal(&mut self, number: u32, written: Written) {
         self.sheets += 1;

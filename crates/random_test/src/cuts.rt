@@ -2,6 +2,7 @@
 use super::networks::Network;
 use super::settings::settings;
 use std::alloc::{AllocError, Global};
+use std::num::Saturating;
 
 // The nodes that are joined to one of them.
 #[derive(Drop)]
@@ -105,7 +106,8 @@ impl Components {
         (0..self.tops.len())
             .map(|v| self.reticulations(v))
             .filter(|reticulations| *reticulations != 0)
-            .map(settings)
-            .fold(0, usize::saturating_add)
+            .map(|reticulations| Saturating(settings(reticulations)))
+            .sum::<Saturating<usize>>()
+            .0
     }
 }

@@ -35,32 +35,38 @@ impl Settled {
         family: &Family,
         whole: usize,
     ) -> Result<Option<Settled>, AllocError> {
-        let costs = costs(alloc, family)?;
+        let Some(costs) = costs(alloc, family)? else {
+            return Ok(None);
+        };
         let Some(best) = Best::of(costs.as_slice()) else {
             return Ok(None);
         };
-        Ok(Some(Settled {
+        let report = report(alloc, family, best.setting, whole)?;
+        Ok(report.map(|report| Settled {
             settings: costs.len(),
             best,
-            report: report(alloc, family, best.setting, whole)?,
+            report,
             words: family.network.len().saturating_mul(family.genes.len()),
         }))
     }
 }
 
-// The report on a setting.
+// The report on a setting, where it maps all genes.
 fn report(
     alloc: Global,
     family: &Family,
     setting: usize,
     whole: usize,
-) -> Result<String, AllocError> {
+) -> Result<Option<String>, AllocError> {
     let tree = DisplayedTree::new(alloc, &family.network, setting)?;
+    let Some(mapping) = Mapping::new(alloc, &tree, family.genes.as_slice())? else {
+        return Ok(None);
+    };
     let report = Report {
         family,
-        mapping: Mapping::new(alloc, &tree, family.genes.as_slice())?,
+        mapping,
         components: Components::find(alloc, &family.network)?,
         whole,
     };
-    format!(in alloc; "{report}")
+    Ok(Some(format!(in alloc; "{report}")?))
 }

@@ -12,23 +12,23 @@ struct Numbers {
 }
 
 impl Numbers {
-    fn of(&self, v: usize) -> usize {
-        self.nodes.get(v).copied().unwrap_or(0)
+    fn of(&self, v: usize) -> Option<usize> {
+        self.nodes.get(v).copied()
     }
 
     // The number of a parent; 0 is none.
-    fn of_parent(&self, parent: Option<usize>) -> usize {
-        parent.map_or(0, |v| self.of(v))
+    fn of_parent(&self, parent: Option<usize>) -> Option<usize> {
+        parent.map_or(Some(0), |v| self.of(v))
     }
 
     // The species of a leaf. It is not the leaf's number, but tells it: 13 is odd, so no two of 32 numbers have the same.
-    fn species(&self, leaf: usize) -> usize {
-        1 + 100 * (13 * (self.of(leaf) % 32) % 32)
+    fn species(&self, leaf: usize) -> Option<usize> {
+        Some(1 + 100 * (13 * (self.of(leaf)? % 32) % 32))
     }
 
     // The species of a gene or a node that may be at a leaf; 0 is none.
-    fn species_at(&self, leaf: Option<usize>) -> usize {
-        leaf.map_or(0, |v| self.species(v))
+    fn species_at(&self, leaf: Option<usize>) -> Option<usize> {
+        leaf.map_or(Some(0), |v| self.species(v))
     }
 }
 
@@ -41,26 +41,47 @@ fn header(draws: Draws, nodes: usize, genes: usize) -> Line {
     Line([nodes, genes, draws.cost(0), transfer, draws.cost(2)])
 }
 
-// The lines of the nodes, in the order of their numbers.
-fn node_lines(alloc: Global, growth: &Growth, numbers: &Numbers) -> Result<Vec<Line>, AllocError> {
-    let mut lines = Vec::new(alloc);
-    for (v, node) in growth.network.nodes.iter().enumerate() {
-        let leaf = growth.live.contains(&v).then_some(v);
-        lines.push(Line([
-            numbers.of(v),
-            numbers.of_parent(node.principal),
-            numbers.of_parent(node.secondary),
-            node.stamp,
-            numbers.species_at(leaf),
-        ]))?;
-    }
-    lines.sort_unstable_by_key(|Line([number, ..])| *number);
-    Ok(lines)
+fn node_line(v: usize, growth: &Growth, numbers: &Numbers) -> Option<Line> {
+    let node = growth.network.nodes.get(v)?;
+    let leaf = growth.live.contains(&v).then_some(v);
+    Some(Line([
+        numbers.of(v)?,
+        numbers.of_parent(node.principal)?,
+        numbers.of_parent(node.secondary)?,
+        node.stamp,
+        numbers.species_at(leaf)?,
+    ]))
 }
 
-fn gene_line(g: usize, gene: &Gene, numbers: &Numbers) -> Line {
+fn gene_line(g: usize, gene: &Gene, numbers: &Numbers) -> Option<Line> {
     let parent = parent_number(gene.parent);
-    Line([number(g), parent, numbers.species_at(gene.leaf), 0, 0])
+    Some(Line([number(g), parent, numbers.species_at(gene.leaf)?, 0, 0]))
+}
+
+// The lines of a sheet, the nodes in the order of their numbers; none where a node has no number.
+fn sheet_lines(alloc: Global, draws: Draws) -> Result<Option<Vec<Line>>, AllocError> {
+    let growth = Growth::of(alloc, draws)?;
+    let genes = descend(alloc, draws, &growth)?;
+    let nodes = growth.network.len();
+    let numbers = Numbers {
+        nodes: draws.shuffled(alloc, nodes)?,
+    };
+    let node_lines: Option<Vec<Line>> = (0..nodes)
+        .map(|v| node_line(v, &growth, &numbers))
+        .collect(alloc)?;
+    let gene_lines: Option<Vec<Line>> = genes
+        .iter()
+        .enumerate()
+        .map(|(g, gene)| gene_line(g, gene, &numbers))
+        .collect(alloc)?;
+    let (Some(mut node_lines), Some(gene_lines)) = (node_lines, gene_lines) else {
+        return Ok(None);
+    };
+    node_lines.sort_unstable_by_key(|Line([number, ..])| *number);
+    let mut lines = vec![in alloc; header(draws, nodes, genes.len())]?;
+    lines.extend(node_lines)?;
+    lines.extend(gene_lines)?;
+    Ok(Some(lines))
 }
 
 // Another number in one field.
@@ -83,21 +104,10 @@ fn damage_byte(draws: Draws, text: &mut [u8]) {
 }
 
 // A random sheet: one in ten is damaged in a field, and one in twenty in a byte.
-pub(crate) fn sheet(alloc: Global, draws: Draws) -> Result<Vec<u8>, AllocError> {
-    let growth = Growth::of(alloc, draws)?;
-    let genes = descend(alloc, draws, &growth)?;
-    let nodes = growth.network.len();
-    let numbers = Numbers {
-        nodes: draws.shuffled(alloc, nodes)?,
+pub(crate) fn sheet(alloc: Global, draws: Draws) -> Result<Option<Vec<u8>>, AllocError> {
+    let Some(mut lines) = sheet_lines(alloc, draws)? else {
+        return Ok(None);
     };
-    let mut lines = vec![in alloc; header(draws, nodes, genes.len())]?;
-    lines.extend(node_lines(alloc, &growth, &numbers)?)?;
-    lines.extend(
-        genes
-            .iter()
-            .enumerate()
-            .map(|(g, gene)| gene_line(g, gene, &numbers)),
-    )?;
     let damage = draws.below(Purpose::Damage, 0, 20);
     if damage < 2 {
         damage_field(draws, lines.as_mut_slice());
@@ -106,7 +116,7 @@ pub(crate) fn sheet(alloc: Global, draws: Draws) -> Result<Vec<u8>, AllocError> 
     if damage == 2 {
         damage_byte(draws, text.as_mut_slice());
     }
-    Ok(text)
+    Ok(Some(text))
 }
 
 fn spell(alloc: Global, lines: &[Line]) -> Result<String, AllocError> {

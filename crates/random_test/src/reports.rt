@@ -1,7 +1,7 @@
 // The report that has to come out, spelled by this program.
 use super::cuts::Components;
 use super::lines::{Line, number, parent_number};
-use super::mappings::Mapping;
+use super::mappings::{MappedGene, Mapping};
 use super::sheets::Family;
 use std::fmt;
 
@@ -20,8 +20,8 @@ impl Report<'_> {
         Line([
             self.mapping.cost(self.family.costs),
             self.mapping.duplications(),
-            self.mapping.all_transfers(),
-            self.mapping.all_losses(),
+            self.mapping.total(|gene| gene.transfers),
+            self.mapping.total(|gene| gene.losses),
             self.components.trials(),
         ])
     }
@@ -47,24 +47,24 @@ impl Report<'_> {
             self.components.reticulations(top),
         ]))
     }
+}
 
-    fn gene(&self, g: usize) -> Line {
-        Line([
-            number(g),
-            number(self.mapping.place(g)),
-            self.mapping.event(g) as usize,
-            self.mapping.transfers(g),
-            self.mapping.losses(g),
-        ])
-    }
+fn gene_line(g: usize, gene: &MappedGene) -> Line {
+    Line([
+        number(g),
+        number(gene.place),
+        gene.event as usize,
+        gene.transfers,
+        gene.losses,
+    ])
 }
 
 impl fmt::Display for Report<'_> {
     fn fmt<W: fmt::Write>(&self, f: &mut fmt::Formatter<W>) -> fmt::Result {
         write!(f, "{}{}", self.totals(), self.sizes())?;
         let reticulations = (0..self.family.network.len()).filter_map(|v| self.reticulation(v));
-        let genes = (0..self.family.genes.len()).map(|g| self.gene(g));
-        for line in reticulations.chain(genes) {
+        let genes = self.mapping.genes.iter().enumerate();
+        for line in reticulations.chain(genes.map(|(g, gene)| gene_line(g, gene))) {
             write!(f, "{line}")?;
         }
         Ok(())

@@ -31,16 +31,18 @@ impl Best {
 
 // How many settings there are: each reticulation doubles them.
 pub(crate) fn settings(reticulations: usize) -> usize {
-    (0..reticulations).fold(1, |all: usize, _| all.saturating_mul(2))
+    2usize.saturating_pow(u32::try_from(reticulations).unwrap_or(u32::MAX))
 }
 
-// What each setting of a family costs.
-pub(crate) fn costs(alloc: Global, family: &Family) -> Result<Vec<usize>, AllocError> {
+// What each setting of a family costs, where each maps all genes.
+pub(crate) fn costs(alloc: Global, family: &Family) -> Result<Option<Vec<usize>>, AllocError> {
     let mut costs = Vec::new(alloc);
     for setting in 0..settings(family.network.reticulations()) {
         let tree = DisplayedTree::new(alloc, &family.network, setting)?;
-        let mapping = Mapping::new(alloc, &tree, family.genes.as_slice())?;
+        let Some(mapping) = Mapping::new(alloc, &tree, family.genes.as_slice())? else {
+            return Ok(None);
+        };
         costs.push(mapping.cost(family.costs))?;
     }
-    Ok(costs)
+    Ok(Some(costs))
 }

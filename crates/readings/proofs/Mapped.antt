@@ -1,11 +1,8 @@
 -- The mapping that computes is the one that 01 words. A way's nodes are those that its lower end is reached from and its upper end is not (`way_is`, of two
 -- nodes above a third one being above the other), so sums along a climb are counts of them; the events are told by their cases (crate displayed).
 -- Assumes nothing.
-use mathlib.Core.Path.{◌≡◌, refl, sym, ◌∙◌}
-use mathlib.Core.Logic.{◌≢◌, ◌↔◌, ◌⊎◌, inl, inr, ⊎_elim}
-use mathlib.Core.Bool.{Bool, true, false, cond, ◌&&◌, not, and-false}
-use Prim.Native.Nat.{ℕ, ◌+◌, ◌≤◌}
-use native.Mathlib.Omega.{arith}
+use Rattle.std.proofs.Common.{◌≡◌, refl, sym, ◌∙◌, ◌≢◌, ◌↔◌, ◌⊎◌, inl, inr, ⊎_elim, Bool, true, false, cond, ◌&&◌, not, ℕ, ◌+◌, ◌≤◌, arith}
+use mathlib.Core.Bool.{and-false}
 use Rattle.finite.specs.Tests.{same, tally}
 use Rattle.finite.specs.Range.{count}
 use Rattle.finite.proofs.Sum.{sum_same}

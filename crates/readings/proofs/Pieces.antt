@@ -1,11 +1,7 @@
 -- The components that compute are those that 01 words: a component goes by its top, the reticulations counted there are those linked with it, and a node that
 -- is no top has none counted, so that sums over all nodes are sums over components.
 -- Assumes nothing.
-use mathlib.Core.Path.{◌≡◌, refl, ap}
-use mathlib.Core.Logic.{◌↔◌}
-use mathlib.Core.Bool.{true, false, not}
-use Prim.Native.Nat.{ℕ, ◌≤◌}
-use native.Mathlib.Omega.{arith}
+use Rattle.std.proofs.Common.{◌≡◌, refl, ap, ◌↔◌, true, false, not, ℕ, ◌≤◌, arith}
 use Rattle.finite.specs.Tests.{same}
 use Rattle.finite.proofs.Cases.{by_bool, by_eq, clash}
 use Rattle.finite.proofs.Tests.{is_same, not_same, not_yes, not_true}

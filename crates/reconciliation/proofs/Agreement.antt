@@ -1,9 +1,9 @@
 -- Only what a switching says at reticulations counts: switchings that agree there have the same parent function and the same on secondary arcs, and
 -- everything else is computed from these two.
 -- Assumes nothing.
-use mathlib.Core.Path.{◌≡◌, fun_ext}
+use mathlib.Core.Path.{fun_ext}
 use mathlib.Core.Bool.{and-false}
-use Prim.Native.Nat.{ℕ}
+use Rattle.std.proofs.Common.{◌≡◌, ℕ}
 use Rattle.finite.proofs.Cases.{by_eq}
 use Rattle.finite.proofs.Tests.{is_same}
 use Rattle.topology.specs.Networks.{Network, Reticulation, is_reticulation}

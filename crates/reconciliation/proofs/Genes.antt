@@ -1,11 +1,7 @@
 -- The genes of a gene tree: a gene that has a parent is a gene, and so is its parent; fewer than half of the genes are inner genes, for each but gene 1
 -- is the child of one.
 -- Assumes nothing.
-use mathlib.Core.Path.{◌≡◌}
-use mathlib.Core.Logic.{◌≢◌, ⊎_elim}
-use mathlib.Core.Bool.{Bool, not}
-use Prim.Native.Nat.{ℕ, ◌*◌, ◌≤◌, ◌<◌}
-use native.Mathlib.Omega.{arith}
+use Rattle.std.proofs.Common.{◌≡◌, ◌≢◌, ⊎_elim, Bool, not, ℕ, ◌*◌, ◌≤◌, ◌<◌, arith}
 use Rattle.finite.specs.Tests.{same, tally}
 use Rattle.finite.specs.Range.{count, children}
 use Rattle.finite.proofs.Cases.{by_eq}

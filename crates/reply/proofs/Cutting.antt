@@ -1,13 +1,7 @@
 -- Cutting a text behind the room of the longest sheet does not change its reply: its header line stays, and a text that is longer than any sheet is refused
 -- by 3, 4 or 5, before and after.
 -- Assumes nothing.
-use mathlib.Core.Path.{◌≡◌, sym, ◌∙◌, ap}
-use mathlib.Core.Bool.{true, false}
-use mathlib.Core.List.{List}
-use Prim.Native.Nat.{ℕ, ◌*◌, ◌≤◌, ◌<◌}
-use native.Mathlib.Omega.{arith}
-use lib.ListN.{length, take, drop}
-use lib.Seq.{length-take-le, take-take, take_all}
+use Rattle.std.proofs.Common.{◌≡◌, sym, ◌∙◌, ap, true, false, List, ℕ, ◌*◌, ◌≤◌, ◌<◌, arith, length, take, drop, length-take-le, take-take, take_all}
 use Rattle.finite.proofs.Cases.{by_bool, by_less, clash}
 use Rattle.finite.proofs.Tests.{not_same}
 use Rattle.text_lines.specs.Lines.{line_length}

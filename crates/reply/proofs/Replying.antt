@@ -1,11 +1,7 @@
 -- What is written is the reply: the answer tells the verdict, so the report or the line of the refusal is the one that the definition chooses; and the
 -- text that was read, cut behind the room of the longest sheet, has the same reply as the whole (proofs/Cutting).
 -- Assumes nothing.
-use mathlib.Core.Path.{◌≡◌, sym, ◌∙◌, ap}
-use mathlib.Core.List.{List}
-use Prim.Native.Nat.{ℕ, ◌<◌}
-use native.Mathlib.Omega.{arith}
-use lib.ListN.{length, take}
+use Rattle.std.proofs.Common.{◌≡◌, sym, ◌∙◌, ap, List, ℕ, ◌<◌, arith, length, take}
 use Rattle.finite.specs.Refusals as Checks
 use Rattle.finite.proofs.Tests.{is_same, not_same}
 use Rattle.columns.specs.Writing.{written}

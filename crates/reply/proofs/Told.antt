@@ -1,10 +1,6 @@
 -- The line of a refusal, put together, and copied to the front of what is lent.
 -- Assumes nothing.
-use Prim.Native.Nat.{ℕ}
-use mathlib.Core.Path.{◌≡◌, ap, ◌∙◌}
-use mathlib.Core.List.{List, [], ◌∷◌, ◌++◌, append-nil}
-use lib.ListN.{length, drop, length-append}
-use native.Mathlib.Omega.{arith}
+use Rattle.std.proofs.Common.{ℕ, ◌≡◌, ap, ◌∙◌, List, [], ◌∷◌, ◌++◌, append-nil, length, drop, length-append, arith}
 use Rattle.columns.specs.Fields.{columns}
 use Rattle.columns.specs.Writing.{written}
 use Rattle.columns.proofs.Columns.{length_columns}

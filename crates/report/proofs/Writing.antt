@@ -1,14 +1,7 @@
 -- The turns of the loops that write lines one after the other: a line put behind those written so far is one line more (`lines_turn`), and as
 -- many lines as pass the test take that many times 31 bytes (`length_lines`).
 -- Assumes nothing.
-use Prim.Native.Nat.{ℕ, zero, suc, ◌+◌, ◌-◌, ◌*◌, ◌≤◌, ◌<◌}
-use Rattle.std.specs.Prelude.{Option, Some, IfSome}
-use mathlib.Core.Path.{◌≡◌, refl, sym, ap, ◌∙◌, subst}
-use mathlib.Core.Bool.{Bool, true, false, cond}
-use mathlib.Core.List.{List, [], ◌++◌}
-use lib.ListN.{length, get_or, length-append}
-use native.Mathlib.Numerals.{add-one}
-use native.Mathlib.Omega.{arith}
+use Rattle.std.proofs.Common.{◌≡◌, ℕ, zero, suc, ◌+◌, ◌-◌, ◌*◌, ◌≤◌, ◌<◌, Bool, true, false, cond, List, [], ◌++◌, length, get_or, length-append, Option, Some, IfSome, refl, sym, ap, ◌∙◌, subst, arith, add-one}
 use Rattle.finite.specs.Tests.{tally}
 use Rattle.finite.specs.Range.{count}
 use Rattle.finite.proofs.Sum.{sum_suc, sum_more, sum_range_le, sum_zero_range}
@@ -19,12 +12,17 @@ use Rattle.columns.proofs.Writing.{put_put, put_written, put_nil, put_front, len
 use Rattle.topology.specs.Networks.{is_reticulation}
 use Rattle.topology.specs.Lines.{network}
 use Rattle.layout.specs.inner.Parts.{top}
+use Rattle.layout.specs.inner.Tree.{lateral}
 use Rattle.layout.proofs.Numbered.{secondary_in}
+use Rattle.layout.specs.declared.lines.Lines.{Lines}
+use Rattle.layout.specs.declared.tree.Tree.{Tree}
+use Rattle.layout.specs.declared.parts.Parts.{Parts}
 use Rattle.layout.specs.declared.results.Placed.{Placed}
 use Rattle.report.specs.declared.Totals.{Totals}
-use Rattle.report.specs.inner.Tables.{has_secondary, reticulation_in, reticulation_numbers, node_line, gene_numbers, SmallNode, SmallGene}
+use Rattle.report.specs.inner.Tables.{has_secondary, reticulation_in, reticulation_numbers, node_line, gene_numbers, SmallNode, SmallNodes, SmallGene}
 use Rattle.report.specs.inner.Written.{line_bytes, Telling, Told}
 use Rattle.finite.proofs.Cases.{by_bool}
+use Rattle.finite.proofs.Tests.{tally_le}
 use Rattle.report.specs.Reports.{five_of, totals_lines, lines_where, always, reticulation_fields, gene_fields, report_of, report_length, SmallFive, SmallTotals, Appended, Extended}
 
 -- five numbers that have fields
@@ -128,11 +126,11 @@ pub told_after : (t : Telling) {d e : List ℕ} {start next : ℕ} (v : ℕ) →
 told_after t {d} {e} {start} {next} v x = let q : v ≡ v + 1 - 1 = omega arith in subst (λ (k : ℕ). Extended d e start next t.test t.fields k) q x
 
 -- the numbers of a node's line and of a gene's have fields
-pub small_node : (tree parts : List ℕ) (v : ℕ) → v ≤ 127 → SmallNode tree parts v → Small (reticulation_numbers tree parts v)
+pub small_node : (tree : Tree) (parts : Parts) (v : ℕ) → v ≤ 127 → SmallNode tree parts v → Small (reticulation_numbers tree parts v)
 small_node tree parts v u s = small_five _ _ _ _ _ _ refl (record {
   one = omega arith;
   two = s.taken;
-  three = s.second;
+  three = omega (arith, tally_le (lateral tree v));
   four = omega (arith, s.top_row);
   five = s.count;
 })
@@ -146,24 +144,28 @@ small_gene results g u s = small_five _ _ _ _ _ _ refl (record {
   five = omega (arith, s.transfers, s.losses);
 })
 
--- at a node the lines are read where they stand
-pub reticulation_at : (n : ℕ) (lines : List ℕ) (v : ℕ) → 1 ≤ v → v ≤ n → has_secondary lines v ≡ reticulation_in n lines v
+-- at a node the column is read
+pub reticulation_at : (lines : Lines) (v : ℕ) → 1 ≤ v → v ≤ lines.header.nodes → has_secondary lines v ≡ reticulation_in lines v
 unfolding has_secondary is_reticulation network
-reticulation_at n lines v low high = rw (secondary_in n lines v low high)
+reticulation_at lines v low high = rw (secondary_in lines.header.nodes lines.nodes v low high)
+
+-- the rows that the line of a node is read from
+pub node_rows : (n : ℕ) (tree : Tree) (parts : Parts) (v : ℕ) → SmallNodes n tree parts → 1 ≤ v → v ≤ n → top parts v ≤ 127
+node_rows n tree parts v s low high = (s.each v low high).top_row
 
 -- what the two closures tell
-abbrev pub node_lines : ℕ → (lines tree parts : List ℕ) → Telling
-node_lines n lines tree parts = record { test = reticulation_in n lines; fields = reticulation_numbers tree parts }
+abbrev pub node_lines : Lines → Tree → Parts → Telling
+node_lines lines tree parts = record { test = reticulation_in lines; fields = reticulation_numbers tree parts }
 
 abbrev pub gene_lines : List Placed → Telling
 gene_lines results = record { test = always; fields = gene_numbers results }
 
-pub node_told : (n : ℕ) (lines tree parts : List ℕ) (v : ℕ) {line : Option (List ℕ)} → 1 ≤ v → v ≤ n → v ≤ 127 → SmallNode tree parts v → line ≡ node_line lines tree parts v
-    → Told (node_lines n lines tree parts) v line
+pub node_told : (lines : Lines) (tree : Tree) (parts : Parts) (v : ℕ) {line : Option (List ℕ)} → 1 ≤ v → v ≤ lines.header.nodes → SmallNode tree parts v → line ≡ node_line lines tree parts v
+    → Told (node_lines lines tree parts) v line
 unfolding node_line
-node_told n lines tree parts v low high few s e = record {
-  is = e ∙ rw (reticulation_at n lines v low high);
-  small = rw e (by_bool (has_secondary lines v) (λ y. rw y (small_node tree parts v few s)) (λ y. rw y tt));
+node_told lines tree parts v low high s e = record {
+  is = e ∙ rw (reticulation_at lines v low high);
+  small = rw e (by_bool (has_secondary lines v) (λ y. rw y (small_node tree parts v (omega (arith, lines.within.few_nodes)) s)) (λ y. rw y tt));
 }
 
 pub gene_told : (results : List Placed) (g : ℕ) {line : Option (List ℕ)} → g ≤ 127 → SmallGene results g → line ≡ Some (gene_numbers results g)

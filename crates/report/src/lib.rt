@@ -1,18 +1,18 @@
 // The report: its lines, each written into what is left of the result.
 #![tactic(auto)]
 
-ghost use Rattle.std.specs.Prelude.{◌≡◌, ℕ, ◌+◌, ◌*◌, ◌≤◌, length, Option, IfSome};
+ghost use Rattle.std.specs.Prelude.{◌≡◌, ℕ, ◌+◌, ◌*◌, ◌≤◌, length, Option, Some, IfSome};
 ghost use Rattle.finite.specs.Range.{count};
 ghost use Rattle.columns.specs.Writing.{written, put};
 ghost use Rattle.text_lines.specs.Lines.{line_length, Small};
 ghost use Rattle.report.specs.Reports.{SmallTotals, totals_lines, report_length, always, Extended};
-ghost use Rattle.report.specs.inner.Tables.{reticulation_in, reticulation_numbers, node_line, gene_numbers, tabled_report, SmallNode, SmallNodes, SmallGenes};
+ghost use Rattle.report.specs.inner.Tables.{reticulation_in, reticulation_numbers, node_line, gene_numbers, tabled_report, SmallNodes, SmallGenes};
 ghost use Rattle.report.specs.inner.Written.{line_bytes, Telling, Tells};
 
-use layout::lines::{Lines, secondary};
-use layout::parts::{Parts, reticulation_count, top};
+use layout::lines::Lines;
+use layout::parts::Parts;
 use layout::results::Results;
-use layout::tree::{Tree, lateral, up};
+use layout::tree::Tree;
 use text_lines::FIELDS;
 
 // The numbers of the first two lines.
@@ -41,46 +41,60 @@ fn write_totals(res: &mut [u8], t: Totals) -> usize
     text_lines::append_line(res, next, &second)
 }
 
-// The numbers of the line of reticulation v.
-fn reticulation_line(v: usize, tree: &Tree, parts: &Parts) -> [u32; FIELDS]
-    requires { (v ≤ 127) × SmallNode tree.now parts.now v }
-    ensures { result ≡ reticulation_numbers tree.now parts.now v }
-{
-    let top = top(parts, v);
-    [
-        v as u32,
-        up(tree, v) as u32,
-        lateral(tree, v),
-        top as u32,
-        reticulation_count(parts, top),
-    ]
+// The tables of a scored family, whose numbers all have fields.
+#[derive(Clone, Copy)]
+pub struct Tabled<'a> {
+    pub lines: &'a Lines,
+    pub tree: &'a Tree,
+    pub parts: &'a Parts,
+    pub results: &'a Results,
+    ghost small_nodes: { SmallNodes lines.now.header.nodes tree.now parts.now },
+    ghost small_genes: { SmallGenes lines.now.header.genes results.now },
 }
 
-// Those of the line of node v, if it is a reticulation.
-#[tactic(auto, using(finite::proofs::Tests::test_laws), unfolding(crate::specs::inner::Tables::node_line, crate::specs::inner::Tables::has_secondary))]
-fn line_of_node(v: usize, lines: &Lines, tree: &Tree, parts: &Parts) -> Option<[u32; FIELDS]>
-    requires { (v ≤ 127) × SmallNode tree.now parts.now v }
-    ensures { result ≡ node_line lines.now tree.now parts.now v }
-{
-    if secondary(lines, v) == 0 {
-        return None;
+impl<'a> Tabled<'a> {
+    // The numbers of the line of reticulation v.
+    #[tactic(auto, using(crate::proofs::Writing::node_rows))]
+    fn reticulation_line(&self, v: usize) -> [u32; FIELDS]
+        requires { (1 ≤ v) × (v ≤ self.now.lines.now.header.nodes) }
+        ensures { result ≡ reticulation_numbers self.now.tree.now self.now.parts.now v }
+    {
+        let top = self.parts.top[v];
+        [
+            v as u32,
+            self.tree.up[v],
+            u32::from(self.tree.lateral[v]),
+            top,
+            self.parts.reticulation_count[top as usize],
+        ]
     }
-    Some(reticulation_line(v, tree, parts))
-}
 
-// Those of the line of gene g.
-fn gene_line(g: usize, results: &Results) -> [u32; FIELDS]
-    requires { g ≤ 127 }
-    ensures { result ≡ gene_numbers results.now g }
-{
-    let gene = results[g];
-    [
-        g as u32,
-        gene.place,
-        gene.event.number(),
-        gene.transfers,
-        gene.losses,
-    ]
+    // Those of the line of node v, if it is a reticulation.
+    #[tactic(auto, using(finite::proofs::Tests::test_laws), unfolding(crate::specs::inner::Tables::node_line, crate::specs::inner::Tables::has_secondary))]
+    fn line_of_node(&self, v: usize) -> Option<[u32; FIELDS]>
+        requires { (1 ≤ v) × (v ≤ self.now.lines.now.header.nodes) }
+        ensures { result ≡ node_line self.now.lines.now self.now.tree.now self.now.parts.now v }
+    {
+        if self.lines.nodes.secondary[v] == 0 {
+            return None;
+        }
+        Some(self.reticulation_line(v))
+    }
+
+    // Those of the line of gene g.
+    fn line_of_gene(&self, g: usize) -> Option<[u32; FIELDS]>
+        requires { g ≤ 127 }
+        ensures { result ≡ Some (gene_numbers self.now.results.now g) }
+    {
+        let gene = self.results[g];
+        Some([
+            g as u32,
+            gene.place,
+            gene.event.number(),
+            gene.transfers,
+            gene.losses,
+        ])
+    }
 }
 
 // Writes a line, where there is one, and returns the place after it.
@@ -113,46 +127,32 @@ fn write_lines<F: Fn(usize) -> Option<[u32; FIELDS]>>(
     next
 }
 
-// A line for each reticulation of 1 to n.
-fn write_reticulations(
-    res: &mut [u8],
-    start: usize,
-    n: usize,
-    lines: &Lines,
-    tree: &Tree,
-    parts: &Parts,
-) -> usize
-    requires { (n ≤ 127) × SmallNodes n tree.now parts.now × (start + line_length * count n (reticulation_in n lines.now) ≤ length res.old) }
-    ensures { Extended res.old res.new start result (reticulation_in n lines.now) (reticulation_numbers tree.now parts.now) n }
+// A line for each reticulation of the network.
+fn write_reticulations(res: &mut [u8], start: usize, tabled: &Tabled<'_>) -> usize
+    requires { start + line_length * count tabled.now.lines.now.header.nodes (reticulation_in tabled.now.lines.now) ≤ length res.old }
+    ensures { Extended res.old res.new start result (reticulation_in tabled.now.lines.now) (reticulation_numbers tabled.now.tree.now tabled.now.parts.now) tabled.now.lines.now.header.nodes }
 {
-    write_lines(res, start, n, |v| line_of_node(v, lines, tree, parts))
+    let n = tabled.lines.header.nodes;
+    write_lines(res, start, n, |v| tabled.line_of_node(v))
 }
 
-// A line for each gene of 1 to m.
-fn write_genes(res: &mut [u8], start: usize, m: usize, results: &Results) -> usize
-    requires { (m ≤ 127) × SmallGenes m results.now × (start + line_length * m ≤ length res.old) }
-    ensures { Extended res.old res.new start result always (gene_numbers results.now) m }
+// A line for each gene.
+fn write_genes(res: &mut [u8], start: usize, tabled: &Tabled<'_>) -> usize
+    requires { start + line_length * tabled.now.lines.now.header.genes ≤ length res.old }
+    ensures { Extended res.old res.new start result always (gene_numbers tabled.now.results.now) tabled.now.lines.now.header.genes }
 {
-    write_lines(res, start, m, |g| Some(gene_line(g, results)))
+    let m = tabled.lines.header.genes;
+    write_lines(res, start, m, |g| tabled.line_of_gene(g))
 }
 
 // Writes the report over the front of the result, and returns how many bytes it has.
-pub fn write_report(
-    res: &mut [u8],
-    totals: Totals,
-    n: usize,
-    m: usize,
-    lines: &Lines,
-    tree: &Tree,
-    parts: &Parts,
-    results: &Results,
-) -> usize
-    requires limits { (n ≤ 127) × (m ≤ 127) × SmallTotals totals × SmallNodes n tree.now parts.now × SmallGenes m results.now }
-    requires room { report_length n m (reticulation_in n lines.now) ≤ length res.old }
-    ensures bytes { res.new ≡ written res.old (tabled_report totals n m lines.now tree.now parts.now results.now) }
-    ensures end { result ≡ report_length n m (reticulation_in n lines.now) }
+pub fn write_report(res: &mut [u8], totals: Totals, tabled: &Tabled<'_>) -> usize
+    requires small { SmallTotals totals }
+    requires room { report_length tabled.now.lines.now.header.nodes tabled.now.lines.now.header.genes (reticulation_in tabled.now.lines.now) ≤ length res.old }
+    ensures bytes { res.new ≡ written res.old (tabled_report totals tabled.now.lines.now tabled.now.tree.now tabled.now.parts.now tabled.now.results.now) }
+    ensures end { result ≡ report_length tabled.now.lines.now.header.nodes tabled.now.lines.now.header.genes (reticulation_in tabled.now.lines.now) }
 {
     let next = write_totals(res, totals);
-    let last = write_reticulations(res, next, n, lines, tree, parts);
-    write_genes(res, last, m, results)
+    let last = write_reticulations(res, next, tabled);
+    write_genes(res, last, tabled)
 }

@@ -1,36 +1,28 @@
 -- The outcome of each way out of the call. A refusal leaves both buffers as they were; the tests before it failed, so it is the first that applies; and a
 -- sheet that none applies to has its report written.
 -- Assumes nothing.
-use Prim.Native.Nat.{ℕ, ◌+◌, ◌*◌, ◌≤◌, ◌<◌}
-use mathlib.Core.Path.{◌≡◌, refl, sym, ap, ◌∙◌, subst}
-use mathlib.Core.Bool.{Bool, true, false, not, ◌&&◌}
-use mathlib.Core.List.{List}
-use lib.ListN.{length}
-use native.Mathlib.Omega.{arith}
-use Rattle.finite.specs.Range.{every}
-use Rattle.finite.specs.Tables.{at, within}
+use Rattle.std.proofs.Common.{◌≡◌, ℕ, ◌+◌, ◌≤◌, ◌<◌, List, length, true, false, not, sym, ap, ◌∙◌, subst, arith, Result, Ok, Err}
+use Rattle.finite.specs.Tables.{at, zeros, filled, within}
 use Rattle.finite.specs.Refusals.{verdict}
-use Rattle.finite.proofs.Tables.{within_same}
+use Rattle.finite.proofs.Tables.{within_same, filled_in, zeros_long}
 use Rattle.finite.proofs.Cases.{by_bool}
-use Rattle.finite.proofs.Tests.{and_no_r, told_not_yes, told_not_no, not_false}
-use Rattle.text_lines.specs.Lines.{field_count}
-use Rattle.tables.specs.Columns.{spaced}
+use Rattle.finite.proofs.Tests.{not_false}
 use Rattle.topology.specs.Lines.{network}
-use Rattle.layout.specs.Lines.{stamp, nodes_in, genes_in}
+use Rattle.topology.specs.Networks.{Sound}
+use Rattle.layout.specs.Lines.{nodes_in, genes_in}
 use Rattle.layout.specs.Headers.{WithinLimits}
 use Rattle.layout.specs.declared.Header.{Header}
-use Rattle.topology.specs.Networks.{Sound}
+use Rattle.layout.specs.declared.lines.NodeColumns.{NodeColumns}
+use Rattle.layout.specs.declared.lines.Lines.{Lines}
 use Rattle.network.specs.Refusals.{network_refusals}
 use Rattle.network.proofs.Acceptance as Acceptance
 use Rattle.components.specs.inner.Filling.{Dated}
-use Rattle.sheet.specs.Sheets.{header_in, nodes, genes, line_no, limits, refusal3, refusal4, refusal5, header_of, whole, node_line, gene_line, cell, cells_of, node_numbered, gene_numbered}
-use Rattle.std.specs.Prelude.{Result, Ok, Err}
+use Rattle.sheet.specs.Sheets.{header_in, nodes, genes, line_no, limits, refusal3, refusal4, refusal5, header_of, cell, formed, node_columns, gene_columns, LinesRead}
 use Rattle.refusals.specs.declared.Refusal.{Refusal}
 use Rattle.refusals.specs.declared.Refusal.TheVariants.{ShortScratch, ShortResult, NoHeader, BeyondLimits, BadLines}
 use Rattle.refusals.specs.Numbers.{number}
 use Rattle.sheet.proofs.Limits.{limits_is}
-use Rattle.sheet.proofs.Storing.{cells_at}
-use Rattle.sheet.proofs.Refusals.{nodes_told, genes_told, cell_small}
+use Rattle.sheet.proofs.Refusals.{cell_small}
 use Rattle.family.specs.Families.{Contents}
 use Rattle.family.specs.Buffers.{least_words, least_bytes}
 use Rattle.family.specs.inner.Stages.{contents_by}
@@ -74,88 +66,66 @@ header_refused s r e b w lb lw = by_bool (refusal3 s)
     kind e = cc
 
 module _ (s : List ℕ) (h : Header) (k : HeaderIs s h) where
-  -- what 5 finds amiss
-  pub not_whole : (a : Bool) → a ≡ whole s h.nodes h.genes → not a ≡ true → refusal5 s ≡ true
-  unfolding refusal5
-  not_whole a e t = let f : whole s (nodes s) (genes s) ≡ false = rw k.header at (told_not_no a _ e t) in rw f
-
   few_nodes : nodes s ≤ 127
   few_nodes = subst (λ (x : Header). x.nodes ≤ 127) k.header k.limited.few_nodes
 
   few_genes : genes s ≤ 127
   few_genes = subst (λ (x : Header). x.genes ≤ 127) k.header k.limited.few_genes
 
-  module _ (cells : List ℕ) (ec : cells ≡ cells_of s (1 + h.nodes + h.genes)) where
-    cells_are : cells ≡ cells_of s (1 + nodes s + genes s)
-    cells_are = ec ∙ rw k.header
+  -- what 5 finds amiss, and where it finds nothing
+  pub amiss : formed s h.nodes h.genes ≡ false → refusal5 s ≡ true
+  unfolding refusal5
+  amiss e = let f : formed s (nodes s) (genes s) ≡ false = rw k.header at e in rw f
 
-    nodes_every : every h.nodes (node_numbered cells) ≡ every (nodes s) (node_line s)
-    nodes_every = rw (cells_are, k.header) (nodes_told s few_nodes few_genes)
+  well : formed s h.nodes h.genes ≡ true → refusal5 s ≡ false
+  unfolding refusal5
+  well e = let f : formed s (nodes s) (genes s) ≡ true = rw k.header at e in rw f
 
-    genes_every : every h.genes (gene_numbered cells h.nodes) ≡ every (genes s) (gene_line s (nodes s))
-    genes_every = rw (cells_are, k.header) (genes_told s few_nodes few_genes)
+  -- the columns that are read hold the sheet's lines
+  node_field : (j : ℕ) → within (nodes s) (at (filled (nodes s) zeros (λ v. cell s v j))) ≡ within (nodes s) (λ v. cell s v j)
+  node_field j = within_same (nodes s) _ _ (λ v a l. filled_in (nodes s) zeros (λ w. cell s w j) v a l (omega (arith, zeros_long, few_nodes)))
 
-    pub nodes_amiss : (a : Bool) → a ≡ every h.nodes (node_numbered cells) → not a ≡ true → refusal5 s ≡ true
-    unfolding refusal5
-    nodes_amiss a e t = let f : every (nodes s) (node_line s) ≡ false = sym nodes_every ∙ told_not_no a _ e t in
-        rw (f, and_no_r (whole s (nodes s) (genes s)) false refl)
+  gene_field : (j : ℕ) → within (genes s) (at (filled (genes s) zeros (λ g. cell s (nodes s + g) j))) ≡ within (genes s) (λ g. cell s (nodes s + g) j)
+  gene_field j = within_same (genes s) _ _ (λ g a l. filled_in (genes s) zeros (λ w. cell s (nodes s + w) j) g a l (omega (arith, zeros_long, few_genes)))
 
-    pub genes_amiss : (a : Bool) → a ≡ every h.genes (gene_numbered cells h.nodes) → not a ≡ true → refusal5 s ≡ true
-    unfolding refusal5
-    genes_amiss a e t = let f : every (genes s) (gene_line s (nodes s)) ≡ false = sym genes_every ∙ told_not_no a _ e t in
-        rw (f, and_no_r (whole s (nodes s) (genes s) && every (nodes s) (node_line s)) false refl)
+  nodes_are : nodes_in (nodes s) (node_columns s (nodes s)) ≡ node_lines s
+  unfolding nodes_in node_columns node_lines
+  nodes_are = rw (node_field 1, node_field 2, node_field 3, node_field 4)
 
-    -- and where it finds nothing
-    pub all_well : (a b c : Bool) → a ≡ whole s h.nodes h.genes → not a ≡ false → b ≡ every h.nodes (node_numbered cells) → not b ≡ false
-        → c ≡ every h.genes (gene_numbered cells h.nodes) → not c ≡ false → refusal5 s ≡ false
-    unfolding refusal5
-    all_well a b c ea ta eb tb ec tc =
-        let x : whole s (nodes s) (genes s) ≡ true = rw k.header at (told_not_yes a _ ea ta) in
-        let y : every (nodes s) (node_line s) ≡ true = sym nodes_every ∙ told_not_yes b _ eb tb in
-        let z : every (genes s) (gene_line s (nodes s)) ≡ true = sym genes_every ∙ told_not_yes c _ ec tc in
-        rw (x, y, z)
+  genes_are : genes_in (genes s) (gene_columns s (nodes s) (genes s)) ≡ gene_lines s
+  unfolding genes_in gene_columns gene_lines
+  genes_are = rw (gene_field 1, gene_field 2)
 
-    -- the cells are the sheet's lines
-    cell_is : (i j : ℕ) → i ≤ nodes s + genes s → j < field_count → at cells (field_count * i + j) ≡ cell s i j
-    cell_is i j l u = rw cells_are (cells_at s (1 + nodes s + genes s) i j (omega (arith, few_nodes, few_genes)) (omega arith) u)
+  stamps_small : Dated (nodes s) (node_columns s (nodes s))
+  unfolding node_columns
+  stamps_small = record {
+    small = λ v a l. omega (arith, filled_in (nodes s) zeros (λ w. cell s w 3) v a l (omega (arith, zeros_long, few_nodes)), cell_small s v 3);
+  }
 
-    node_field : (j : ℕ) → j < field_count → within (nodes s) (spaced cells j field_count) ≡ within (nodes s) (λ v. cell s v j)
-    unfolding spaced
-    node_field j u = within_same (nodes s) _ _ (λ v a l. ap (at cells) (omega arith) ∙ cell_is v j (omega arith) u)
+  module _ (lines : Lines) (R : LinesRead s h (Ok lines)) where
+    header_same : lines.header ≡ header_in s
+    header_same = R.1 ∙ k.header
 
-    gene_field : (j : ℕ) → j < field_count → within (genes s) (spaced cells (field_count * nodes s + j) field_count) ≡ within (genes s) (λ g. cell s (nodes s + g) j)
-    unfolding spaced
-    gene_field j u = within_same (genes s) _ _ (λ g a l. ap (at cells) (omega arith) ∙ cell_is (nodes s + g) j (omega arith) u)
+    nodes_same : lines.nodes ≡ node_columns s (nodes s)
+    nodes_same = R.2 ∙ ap (λ (x : Header). node_columns s x.nodes) k.header
 
-    nodes_are : nodes_in (nodes s) cells ≡ node_lines s
-    unfolding nodes_in node_lines
-    nodes_are = rw (node_field 1 (omega arith), node_field 2 (omega arith), node_field 3 (omega arith), node_field 4 (omega arith))
+    genes_same : lines.genes ≡ gene_columns s (nodes s) (genes s)
+    genes_same = R.3 ∙ ap (λ (x : Header). gene_columns s x.nodes x.genes) k.header
 
-    genes_are : genes_in (nodes s) (genes s) cells ≡ gene_lines s
-    unfolding genes_in gene_lines
-    genes_are = rw (gene_field 1 (omega arith), gene_field 2 (omega arith))
-
-    contents_are : contents_by h cells ≡ contents_of s
+    contents_are : contents_by lines ≡ contents_of s
     unfolding contents_of
-    contents_are = rw k.header (rw (nodes_are, genes_are))
+    contents_are = rw (header_same, nodes_same, genes_same) (rw (nodes_are, genes_are))
 
-    stamps_small : Dated (nodes s) cells
-    unfolding spaced
-    stamps_small = record {
-      small = λ v a l. let e : at cells (field_count * v + 3) ≡ stamp cells v = ap (at cells) (omega arith) in
-          omega (arith, e, cell_is v 3 (omega arith) (omega arith), cell_small s v 3);
-    }
-
-    pub numbered : (b w : ℕ) → least_bytes ≤ b → least_words ≤ w → Numbered h cells b w
+    pub numbered : (b w : ℕ) → least_bytes ≤ b → least_words ≤ w → Numbered lines b w
     numbered b w lb lw = record {
-      sized = record { limits = k.limited; room = lb; space = lw };
-      stamps = subst (λ (x : Header). Dated x.nodes cells) (sym k.header) stamps_small;
+      sized = record { room = lb; space = lw };
+      stamps = rw (header_same, nodes_same) stamps_small;
     }
 
     -- the outcome of the lines is the sheet's
-    pub five_passed : (d e u t : List ℕ) (r : Result ℕ Refusal) → least_bytes ≤ length d → least_words ≤ length u → refusal5 s ≡ false → OutcomeBy h cells d e u t r → OutcomeOf s d e u t r
-    five_passed d e u t r lb lw f o =
-        let q = refusal_later s (length d) (length u) lw lb k.three k.four f in
+    pub five_passed : (d e u t : List ℕ) (r : Result ℕ Refusal) → least_bytes ≤ length d → least_words ≤ length u → OutcomeBy lines d e u t r → OutcomeOf s d e u t r
+    five_passed d e u t r lb lw o =
+        let q = refusal_later s (length d) (length u) lw lb k.three k.four (well R.0) in
         rw q (subst (λ (X : Contents). Outcome (verdict (curator_refusals X)) X d e u t r) contents_are o)
 
   pub five_refused : (d u : List ℕ) → least_bytes ≤ length d → least_words ≤ length u → refusal5 s ≡ true → OutcomeOf s d d u u (Err BadLines)
@@ -172,5 +142,5 @@ pub header_outcome : (s d u : List ℕ) (r : Refusal) → Err r ≡ header_of s 
 header_outcome s d u r e lb lw = refuses _ r (contents_of s) d u (header_refused s r e (length d) (length u) lb lw)
 
 -- a network that passes 6 to 10 is sound
-pub sound_in : (n : ℕ) (l : List ℕ) → verdict (network_refusals (nodes_in n l)) ≡ 0 → Sound (network (nodes_in n l))
+pub sound_in : (n : ℕ) (l : NodeColumns) → verdict (network_refusals (nodes_in n l)) ≡ 0 → Sound (network (nodes_in n l))
 sound_in n l e = (Acceptance.accepted (nodes_in n l) (Acceptance.no_others n l) e).sound

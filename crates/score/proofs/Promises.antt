@@ -1,11 +1,7 @@
 -- The promise of the call follows from its outcome (crate answer): its refusals' tests tell their conditions, their numbers go up to 13, and a sheet that
 -- none applies to is admitted to the theorems.
 -- Assumes nothing.
-use Prim.Native.Nat.{ℕ}
-use mathlib.Core.Path.{◌≡◌}
-use mathlib.Core.List.{List}
-use lib.ListN.{length}
-use native.Mathlib.Omega.{arith}
+use Rattle.std.proofs.Common.{ℕ, ◌≡◌, List, length, arith}
 use Rattle.finite.proofs.Refusals.{Low, verdict_low}
 use Rattle.finite.proofs.Tests.{not_false}
 use Rattle.layout.specs.Headers.{WithinLimits}

@@ -1,11 +1,11 @@
-// The call that scores a family sheet: the refusals in the order of checking, then the report and the table of the whole network.
+// The call that scores a family sheet: the refusals in the order of checking, then the report and the table of the whole network. (Result and scratch stay
+// two parameters from call to call, as C lends them and as the promise names them.)
 #![tactic(auto)]
 
 ghost use Rattle.std.specs.Prelude.{◌≡◌, length};
 ghost use Rattle.finite.specs.Refusals.{verdict};
-ghost use Rattle.layout.specs.Lines.{nodes_in};
+ghost use Rattle.layout.specs.Lines.{nodes_of, network_of};
 ghost use Rattle.layout.specs.inner.Parts.{Parted};
-ghost use Rattle.topology.specs.Lines.{network};
 ghost use Rattle.network.specs.Refusals.{network_refusals};
 ghost use Rattle.score.specs.Outcome.{Promise};
 ghost use Rattle.family.specs.inner.Stages.{Sized};
@@ -23,38 +23,31 @@ pub const LEAST_WORDS: usize = 16129;
 pub const LEAST_BYTES: usize = 5952;
 
 // The verdict on the gene tree, and the report of a family that passes it.
-fn score_genes(
-    h: Header,
-    lines: &Lines,
-    parts: &Parts,
-    res: &mut [u8],
-    scratch: &mut [u32],
-) -> Answer
-    requires { Sized h (length res.old) (length scratch.old) × Curated h lines.now × Parted (network (nodes_in h.nodes lines.now)) parts.now }
-    ensures { OutcomeBy h lines.now res.old res.new scratch.old scratch.new result }
+fn score_genes(lines: &Lines, parts: &Parts, res: &mut [u8], scratch: &mut [u32]) -> Answer
+    requires { Sized (length res.old) (length scratch.old) × Curated lines.now × Parted (network_of lines.now) parts.now }
+    ensures { OutcomeBy lines.now res.old res.new scratch.old scratch.new result }
 {
-    gene_tree::verdict(h.nodes, h.genes, lines)?;
-    Ok(family::write(h, lines, parts, res, scratch))
+    gene_tree::verdict(lines)?;
+    Ok(family::write(lines, parts, res, scratch))
 }
 
 // The components of a network that passes 6 to 10, and 11.
-fn score_components(h: Header, lines: &Lines, res: &mut [u8], scratch: &mut [u32]) -> Answer
-    requires { Numbered h lines.now (length res.old) (length scratch.old) × (verdict (network_refusals (nodes_in h.nodes lines.now)) ≡ 0) }
-    ensures { OutcomeBy h lines.now res.old res.new scratch.old scratch.new result }
+fn score_components(lines: &Lines, res: &mut [u8], scratch: &mut [u32]) -> Answer
+    requires { Numbered lines.now (length res.old) (length scratch.old) × (verdict (network_refusals (nodes_of lines.now)) ≡ 0) }
+    ensures { OutcomeBy lines.now res.old res.new scratch.old scratch.new result }
 {
-    let mut parts = [0; 512];
-    components::fill(h.nodes, lines, &mut parts);
-    components::verdict(h.nodes, lines, &parts)?;
-    score_genes(h, lines, &parts, res, scratch)
+    let parts = components::part(lines);
+    components::verdict(lines, &parts)?;
+    score_genes(lines, &parts, res, scratch)
 }
 
 // The curators' verdicts, and the report of a family that passes them.
-fn score_network(h: Header, lines: &Lines, res: &mut [u8], scratch: &mut [u32]) -> Answer
-    requires { Numbered h lines.now (length res.old) (length scratch.old) }
-    ensures { OutcomeBy h lines.now res.old res.new scratch.old scratch.new result }
+fn score_network(lines: &Lines, res: &mut [u8], scratch: &mut [u32]) -> Answer
+    requires { Numbered lines.now (length res.old) (length scratch.old) }
+    ensures { OutcomeBy lines.now res.old res.new scratch.old scratch.new result }
 {
-    network::verdict(h.nodes, lines)?;
-    score_components(h, lines, res, scratch)
+    network::verdict(lines)?;
+    score_components(lines, res, scratch)
 }
 
 // A sheet whose header is within the limits: its other lines.
@@ -62,20 +55,8 @@ fn score_lines(sheet: &[u8], h: Header, res: &mut [u8], scratch: &mut [u32]) -> 
     requires { Lined sheet.now h (length res.old) (length scratch.old) }
     ensures { OutcomeOf sheet.now res.old res.new scratch.old scratch.new result }
 {
-    let n = h.nodes;
-    let m = h.genes;
-    if !sheet::is_whole(sheet, n, m) {
-        return Err(Refusal::BadLines);
-    }
-    let mut lines = [0; layout::lines::CELLS];
-    sheet::cells(sheet, 1 + n + m, &mut lines);
-    if !sheet::nodes_in_order(&lines, n) {
-        return Err(Refusal::BadLines);
-    }
-    if !sheet::genes_in_order(&lines, n, m) {
-        return Err(Refusal::BadLines);
-    }
-    score_network(h, &lines, res, scratch)
+    let lines = sheet::read_lines(sheet, h)?;
+    score_network(&lines, res, scratch)
 }
 
 // Scores a sheet: a report in the result and the table of the whole network in the scratch, or a refusal that touches neither.

@@ -1,22 +1,21 @@
--- A table that holds the network under a switching is a tree that the mapping can climb, and what the mapping finds in it is what the model says of the
--- network under that switching. No more than two on arcs leave a node, for no more than two arcs do.
+-- A tree that holds the network under a switching is one that the mapping can climb, and what the mapping finds in it is what the model says of the network
+-- under that switching. No more than two on arcs leave a node, for no more than two arcs do.
 -- Assumes nothing.
-use mathlib.Core.Path.{◌≡◌, refl, sym, ◌∙◌, ap}
-use mathlib.Core.Logic.{◌≢◌, ◌⊎◌, inl, inr}
-use mathlib.Core.List.{List}
-use Prim.Native.Nat.{ℕ, ◌≤◌}
-use native.Mathlib.Omega.{arith}
+use Rattle.std.proofs.Common.{◌≡◌, ◌≢◌, ℕ, ◌≤◌, List, refl, sym, ◌∙◌, ap, arith, ◌⊎◌, inl, inr}
 use Rattle.finite.specs.Tests.{same, tally}
 use Rattle.finite.proofs.Cases.{by_eq}
-use Rattle.finite.proofs.Tests.{tally_le}
 use Rattle.topology.specs.Networks.{Network, Node}
-use Rattle.topology.specs.Switchings.{Switching, on_secondary, on_arcs}
+use Rattle.topology.specs.Switchings.{Switching, on_arcs}
 use Rattle.topology.specs.Lines.{network}
 use Rattle.topology.proofs.Above.{parent_cases, by_node}
-use Rattle.layout.specs.Lines.{nodes_in}
+use Rattle.layout.specs.Lines.{nodes_in, network_of}
 use Rattle.layout.specs.inner.Tree.{up, lateral, rank, Held}
+use Rattle.layout.specs.inner.Genes.{gene_tree}
 use Rattle.layout.specs.Headers.{costs}
-use Rattle.layout.specs.declared.Header.{Header}
+use Rattle.layout.specs.declared.lines.Lines.{Lines}
+use Rattle.layout.specs.declared.parts.Parts.{Parts}
+use Rattle.layout.specs.declared.tree.Tree.{Tree}
+use Rattle.layout.specs.declared.genes.Genes.{Genes}
 use Rattle.layout.specs.declared.results.Placed.{Placed}
 use Rattle.reconciliation.specs.GeneTrees.{GeneTree}
 use Rattle.displayed.specs.Displayed.{Displayed, NodeOf}
@@ -28,29 +27,33 @@ use Rattle.displayed.proofs.Displays.{no_third}
 use Rattle.mapping.specs.inner.Climbs.{fork_in, tree_of, Climbable}
 use Rattle.mapping.specs.inner.Evaluation.{Family, score_of, Evaluated}
 use Rattle.mapping.specs.declared.Score.{Score}
-use Rattle.search.specs.inner.Prepared.{network_of, genes_of, Prepared, Reconciled, score_under}
+use Rattle.search.specs.inner.Prepared.{Prepared, Reconciled, score_under}
 
-module _ (h : Header) (lines parts genes : List ℕ) (P : Prepared h lines parts genes) (σ : Switching) (t : List ℕ) (H : Held (network_of h lines) σ t) where
+module _ (lines : Lines) (parts : Parts) (genes : Genes) (P : Prepared lines parts genes) (σ : Switching) (t : Tree) (H : Held (network_of lines) σ t) where
   abbrev N : Network
-  N = network_of h lines
+  N = network_of lines
 
   abbrev G : GeneTree
-  G = genes_of h genes
+  G = gene_tree lines.header.genes genes
 
   abbrev n : ℕ
-  n = h.nodes
+  n = lines.header.nodes
+
+  -- the secondary arcs that are on, as numbers
+  abbrev marks : ℕ → ℕ
+  marks v = tally (lateral t v)
 
   size_is : N.size ≡ n
   unfolding network nodes_in
   size_is = refl
 
-  holds : Holds (D.tree_of N σ) n (up t) (rank t) (lateral t) (fork_in t)
+  holds : Holds (D.tree_of N σ) n (up t) (rank t) marks (fork_in t)
   unfolding display switched base two_arcs fork_in on_arcs
   holds = record {
     size = sym size_is;
     ups = λ v _. H.ups v;
     ranks = λ v k. H.ranks v k.high;
-    laterals = λ v _. H.laterals v;
+    laterals = λ v _. ap tally (H.laterals v);
     forked = λ v k. ap (λ (x : ℕ). tally (same x 2)) (H.counts v (record { low = k.low; high = k.high }));
   }
 
@@ -58,9 +61,6 @@ module _ (h : Header) (lines parts genes : List ℕ) (P : Prepared h lines parts
   up_few v = rw (H.ups v) (parent_cases N σ v
       (λ e. by_node N P.sound v (λ k. omega (arith, e, size_is, P.sound.in_principal v k)) (λ z _. omega (arith, e)))
       (λ _ e. by_node N P.sound v (λ k. omega (arith, e, size_is, P.sound.in_secondary v k)) (λ _ z. omega (arith, e))))
-
-  lateral_few : (v : ℕ) → lateral t v ≤ 1
-  lateral_few v = rw (H.laterals v) (tally_le (on_secondary N σ v))
 
   rank_some : (v : ℕ) → 1 ≤ v → v ≤ n → 1 ≤ rank t v
   rank_some v l u = rw (H.ranks v (omega (arith, size_is))) (P.sound.rank_some v (λ e. omega arith))
@@ -78,40 +78,39 @@ module _ (h : Header) (lines parts genes : List ℕ) (P : Prepared h lines parts
   pub climbable : Climbable n t
   unfolding tree_of
   climbable = record {
-    few = P.limits.few_nodes;
-    tree = table_tree N P.sound σ G P.rooted P.seated n (up t) (rank t) (lateral t) (fork_in t) holds;
+    few = lines.within.few_nodes;
+    tree = table_tree N P.sound σ G P.rooted P.seated n (up t) (rank t) marks (fork_in t) holds;
     ranks = rank_some;
-    laterals = lateral_few;
     ups = up_few;
     narrow = narrow;
   }
 
-  pub family : Family h t genes
+  pub family : Family lines.header t genes
   unfolding tree_of
   family = record {
-    limits = P.limits;
+    limits = lines.within;
     tree = climbable;
     rooted = P.rooted;
-    seated = table_seated N P.sound σ G P.rooted P.seated n (up t) (rank t) (lateral t) (fork_in t) holds;
+    seated = table_seated N P.sound σ G P.rooted P.seated n (up t) (rank t) marks (fork_in t) holds;
   }
 
   abbrev X : Displayed
   X = tree_of n t
 
-  pub score_is : (s : Score) → s ≡ score_of X G (costs h) → s ≡ score_under N G (costs h) σ
+  pub score_is : (s : Score) → s ≡ score_of X G (costs lines.header) → s ≡ score_under N G (costs lines.header) σ
   unfolding score_of score_under tree_of
   score_is s e = e ∙ rw (
-    table_duplication_count N P.sound σ G P.rooted P.seated n (up t) (rank t) (lateral t) (fork_in t) holds,
-    table_transfer_count N P.sound σ G P.rooted P.seated n (up t) (rank t) (lateral t) (fork_in t) holds,
-    table_loss_count N P.sound σ G P.rooted P.seated n (up t) (rank t) (lateral t) (fork_in t) holds,
-    table_cost N P.sound σ G P.rooted P.seated n (up t) (rank t) (lateral t) (fork_in t) holds (costs h),
+    table_duplication_count N P.sound σ G P.rooted P.seated n (up t) (rank t) marks (fork_in t) holds,
+    table_transfer_count N P.sound σ G P.rooted P.seated n (up t) (rank t) marks (fork_in t) holds,
+    table_loss_count N P.sound σ G P.rooted P.seated n (up t) (rank t) marks (fork_in t) holds,
+    table_cost N P.sound σ G P.rooted P.seated n (up t) (rank t) marks (fork_in t) holds (costs lines.header),
   )
 
   pub genes_are : (r : List Placed) → Evaluated X G r → Reconciled N G σ r
   unfolding tree_of
   genes_are r e = record {
-    places = λ g l u. e.places g l u ∙ table_place N P.sound σ G P.rooted P.seated n (up t) (rank t) (lateral t) (fork_in t) holds g;
-    events = λ g l u. e.events g l u ∙ table_event N P.sound σ G P.rooted P.seated n (up t) (rank t) (lateral t) (fork_in t) holds g;
-    ways = λ g l u. e.ways g l u ∙ table_transfers N P.sound σ G P.rooted P.seated n (up t) (rank t) (lateral t) (fork_in t) holds g;
-    lost = λ g l u. e.lost g l u ∙ table_losses N P.sound σ G P.rooted P.seated n (up t) (rank t) (lateral t) (fork_in t) holds g;
+    places = λ g l u. e.places g l u ∙ table_place N P.sound σ G P.rooted P.seated n (up t) (rank t) marks (fork_in t) holds g;
+    events = λ g l u. e.events g l u ∙ table_event N P.sound σ G P.rooted P.seated n (up t) (rank t) marks (fork_in t) holds g;
+    ways = λ g l u. e.ways g l u ∙ table_transfers N P.sound σ G P.rooted P.seated n (up t) (rank t) marks (fork_in t) holds g;
+    lost = λ g l u. e.lost g l u ∙ table_losses N P.sound σ G P.rooted P.seated n (up t) (rank t) marks (fork_in t) holds g;
   }

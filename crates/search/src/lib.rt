@@ -1,33 +1,27 @@
 // 01's search, "a plain machine whose state is a value": the bests by top, in the table of choices, and the count of trials. All functions are lent one
-// prepared network and gene tree (`Given`), and three tables to work in (`Work`).
+// prepared network and gene tree (`Given`), and the tables to work in (`Work`).
 #![tactic(auto)]
 
 ghost use Rattle.std.specs.Prelude.{◌≡◌, ◌+◌, ◌≤◌, ◌<◌};
-ghost use Rattle.tables.specs.Columns.{entry, blank};
+ghost use Rattle.finite.specs.Tables.{at};
+ghost use Rattle.layout.specs.inner.Choices.{blank};
+ghost use Rattle.layout.specs.inner.Tree.{blank as blank_tree};
 ghost use Rattle.layout.specs.inner.Results.{blank as blank_results};
 ghost use Rattle.optimum.specs.Optimum.{trials_of};
 ghost use Rattle.search.specs.inner.Steps.{takes, Settling, SettledBy, Finished};
-ghost use Rattle.search.specs.inner.Works.{PreparedIn, WorkingIn, AssembledIn, AwaitingIn, ReachedIn, LastIn, SearchedIn};
+ghost use Rattle.search.specs.inner.Works.{WorkingIn, AssembledIn, AwaitingIn, ReachedIn, LastIn, SearchedIn};
 
+pub mod given;
+
+use given::Given;
 use layout::choices::Choices;
-use layout::genes::Genes;
-use layout::lines::Lines;
-use layout::parts::Parts;
 use layout::results::Results;
 use layout::tree::Tree;
-use layout::{Header, choices, parts};
 use mapping::Score;
+use tables::Column;
 
-// What is lent to the search: a network and a gene tree that passed the refusals, with all that does not depend on the switching worked out once.
-#[derive(Clone, Copy)]
-pub struct Given<'a> {
-    pub header: Header,
-    pub lines: &'a Lines,
-    pub parts: &'a Parts,
-    pub genes: &'a Genes,
-}
-
-// The tables that the search works in: the settings tried and the bests, the tree of a switching, and the genes under it.
+// The tables that the search works in: the settings tried and the bests, the tree of a switching, and the genes under it. (Lent and filled in place, as by
+// `switching::start`: tables that are returned are copied, which made a typical call 5 % slower.)
 #[derive(Drop)]
 pub struct Work {
     pub choices: Choices,
@@ -35,13 +29,14 @@ pub struct Work {
     pub results: Results,
 }
 
-// Where the search stands: all settings of the components up to one are scored, and of the next component those below a setting, the best of which costs
-// the least; and so many settings are scored in all.
+// Where the search stands between two steps, which the public `step` is given and gives back, so it has the numbers that the loops count too: all settings
+// of the components up to one are scored, and of the next component those below a setting, the best of which costs the least, if there is one; and so many
+// settings are scored in all.
 #[derive(Clone, Copy, Default)]
 pub struct Stage {
     pub done: usize,
     pub setting: u32,
-    pub least: u32,
+    pub least: Option<u32>,
     pub count: u32,
 }
 
@@ -60,110 +55,105 @@ fn settings_of(k: u32) -> u32
     if k == 0 { 0 } else { 1 << k }
 }
 
-// The score of the switching that has the settings of column k.
-fn evaluated(given: &Given, work: &mut Work, k: usize) -> Score
-    requires { PreparedIn given.now × WorkingIn given.now work.old × (k < 4) }
-    ensures assembled { AssembledIn given.now (entry work.old.choices k) work.new result }
-    ensures choices { work.new.choices ≡ work.old.choices }
+// Whether a setting becomes the best of its component: it is the first, or costs less than the least so far.
+#[tactic(auto, unfolding(crate::specs::inner::Steps::takes, finite::specs::Tests::under))]
+fn takes(least: Option<u32>, cost: u32) -> bool
+    ensures { result ≡ takes least cost }
 {
-    let n = given.header.nodes;
-    switching::switch(
-        n,
-        given.lines,
-        given.parts,
-        &work.choices,
-        k,
-        &mut work.tree,
-    );
-    mapping::evaluate(given.header, &work.tree, given.genes, &mut work.results)
-}
-
-// Whether setting x becomes the best of its component: it is the first, number 0, or costs less than the least so far.
-#[tactic(auto, unfolding(crate::specs::inner::Steps::takes, finite::specs::Tests::same, finite::specs::Tests::under))]
-fn takes(x: u32, cost: u32, least: u32) -> bool
-    ensures { result ≡ takes x cost least }
-{
-    x == 0 || cost < least
+    match least {
+        None => true,
+        Some(so_far) => cost < so_far,
+    }
 }
 
 // The next setting was found to cost this.
-fn settle(choices: &mut Choices, s: Stage, cost: u32) -> Stage
+fn settle(best: &mut Column, s: Stage, cost: u32) -> Stage
     requires { Settling s }
-    ensures { SettledBy s cost choices.old choices.new result }
+    ensures { SettledBy s cost best.old best.new result }
 {
     let mut r = s;
     r.setting += 1;
     r.count += 1;
-    if takes(s.setting, cost, s.least) {
-        r.least = cost;
-        tables::put(choices, choices::BEST, s.done + 1, s.setting);
+    if takes(s.least, cost) {
+        r.least = Some(cost);
+        best[s.done + 1] = s.setting;
     }
     r
 }
 
-// "One step scores the next setting of a single component .. and raises the count by one".
-pub fn step(given: &Given, work: &mut Work, s: Stage) -> Stage
-    requires prepared { PreparedIn given.now × WorkingIn given.now work.old }
-    requires awaiting { AwaitingIn given.now work.old s }
-    ensures reached { ReachedIn given.now work.new result × (result.done ≡ s.done) × (result.setting ≡ s.setting + 1) }
-    ensures working { WorkingIn given.now work.new }
-{
-    tables::put(&mut work.choices, choices::SETTING, s.done + 1, s.setting);
-    let score = evaluated(given, work, choices::SETTING);
-    settle(&mut work.choices, s, score.cost)
-}
-
 // All settings of the next component are scored: the one after it is next.
-fn finish(choices: &mut Choices, s: Stage) -> Stage
+fn finish(setting: &mut Column, s: Stage) -> Stage
     requires { s.done < 127 }
-    ensures { Finished s choices.old choices.new result }
+    ensures { Finished s setting.old setting.new result }
 {
-    tables::put(choices, choices::SETTING, s.done + 1, 0);
+    setting[s.done + 1] = 0;
     Stage {
         done: s.done + 1,
         setting: 0,
-        least: 0,
+        least: None,
         count: s.count,
     }
 }
 
-// All settings of the next component, "by rising number".
-fn component(given: &Given, work: &mut Work, s: Stage) -> Stage
-    requires prepared { PreparedIn given.now × WorkingIn given.now work.old }
-    requires reached { ReachedIn given.now work.old s × (s.done < given.now.header.nodes) × (s.setting ≡ 0) }
-    ensures reached_after { ReachedIn given.now work.new result × (result.done ≡ s.done + 1) × (result.setting ≡ 0) }
-    ensures working { WorkingIn given.now work.new }
-{
-    let tried = settings_of(parts::reticulation_count(given.parts, s.done + 1));
-    let mut stage = s;
-    for _ in 0..tried {
-        stage = step(given, work, stage);
+impl Given<'_> {
+    // The score of the switching that has these settings, with its tree and its genes.
+    fn evaluated(&self, settings: &Column, tree: &mut Tree, results: &mut Results) -> Score
+        requires { WorkingIn self.now tree.old results.old }
+        ensures { AssembledIn self.now (at settings.now) tree.new results.new result }
+    {
+        switching::switch(self.lines, self.parts, settings, tree);
+        mapping::evaluate(self.lines.header, tree, self.genes, results)
     }
-    finish(&mut work.choices, stage)
-}
 
-// All components, "by rising top": the count of trials. A component without reticulations has no setting to score.
-fn components(given: &Given, work: &mut Work) -> u32
-    requires { PreparedIn given.now × WorkingIn given.now work.old × (work.old.choices ≡ blank) }
-    ensures last { LastIn given.now work.new result }
-    ensures working { WorkingIn given.now work.new }
-{
-    let mut stage = Stage::default();
-    for _ in 0..given.header.nodes {
-        stage = component(given, work, stage);
+    // "One step scores the next setting of a single component .. and raises the count by one".
+    pub fn step(&self, work: &mut Work, s: Stage) -> Stage
+        requires working { WorkingIn self.now work.old.tree work.old.results }
+        requires awaiting { AwaitingIn self.now work.old s }
+        ensures reached { ReachedIn self.now work.new result × (result.done ≡ s.done) × (result.setting ≡ s.setting + 1) }
+        ensures working { WorkingIn self.now work.new.tree work.new.results }
+    {
+        work.choices.setting[s.done + 1] = s.setting;
+        let score = self.evaluated(&work.choices.setting, &mut work.tree, &mut work.results);
+        settle(&mut work.choices.best, s, score.cost)
     }
-    stage.count
-}
 
-// The search: steps until no setting is left, then the switching of the last state's bests, its tree in one table and its genes in another.
-pub fn run(given: &Given, work: &mut Work) -> Found
-    requires { PreparedIn given.now × (work.old.choices ≡ blank) × (work.old.tree ≡ blank) × (work.old.results ≡ blank_results) }
-    ensures { SearchedIn given.now work.new result }
-{
-    let h = given.header;
-    switching::start(h.nodes, given.lines, given.parts, &mut work.tree);
-    mapping::seat_leaves(h.genes, given.genes, &mut work.results);
-    let trials = components(given, work);
-    let score = evaluated(given, work, choices::BEST);
-    Found { trials, score }
+    // All settings of the next component, "by rising number".
+    fn component(&self, work: &mut Work, s: Stage) -> Stage
+        requires working { WorkingIn self.now work.old.tree work.old.results }
+        requires reached { ReachedIn self.now work.old s × (s.done < self.now.lines.now.header.nodes) × (s.setting ≡ 0) }
+        ensures reached_after { ReachedIn self.now work.new result × (result.done ≡ s.done + 1) × (result.setting ≡ 0) }
+        ensures working { WorkingIn self.now work.new.tree work.new.results }
+    {
+        let tried = settings_of(self.parts.reticulation_count[s.done + 1]);
+        let mut stage = s;
+        for _ in 0..tried {
+            stage = self.step(work, stage);
+        }
+        finish(&mut work.choices.setting, stage)
+    }
+
+    // All components, "by rising top": the count of trials. A component without reticulations has no setting to score.
+    fn components(&self, work: &mut Work) -> u32
+        requires { WorkingIn self.now work.old.tree work.old.results × (work.old.choices ≡ blank) }
+        ensures last { LastIn self.now work.new result }
+        ensures working { WorkingIn self.now work.new.tree work.new.results }
+    {
+        let mut stage = Stage::default();
+        for _ in 0..self.lines.header.nodes {
+            stage = self.component(work, stage);
+        }
+        stage.count
+    }
+
+    // The search: steps until no setting is left, then the switching of the last state's bests, its tree in one table and its genes in another.
+    pub fn run(&self, work: &mut Work) -> Found
+        requires { (work.old.choices ≡ blank) × (work.old.tree ≡ blank_tree) × (work.old.results ≡ blank_results) }
+        ensures { SearchedIn self.now work.new result }
+    {
+        switching::start(self.lines, self.parts, &mut work.tree);
+        mapping::seat_leaves(self.lines.header.genes, self.genes, &mut work.results);
+        let trials = self.components(work);
+        let score = self.evaluated(&work.choices.best, &mut work.tree, &mut work.results);
+        Found { trials, score }
+    }
 }

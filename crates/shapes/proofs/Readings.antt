@@ -1,11 +1,7 @@
 -- Each refusal's test says what 01 says: from the test to its reading by the clause that passed, and back clause by clause. So the verdict of the list
 -- tells the first refusal that applies (`shapes_tell`).
 -- Assumes nothing.
-use mathlib.Core.Path.{◌≡◌}
-use mathlib.Core.Logic.{◌↔◌}
-use mathlib.Core.Bool.{Bool, true, false, not, ◌&&◌, ◌||◌}
-use Prim.Native.Nat.{ℕ, ◌<◌}
-use native.Mathlib.Omega.{arith}
+use Rattle.std.proofs.Common.{◌≡◌, ◌↔◌, Bool, true, false, not, ◌&&◌, ◌||◌, ℕ, ◌<◌, arith}
 use Rattle.finite.specs.Tests.{same, under}
 use Rattle.finite.specs.Range.{any, every, children}
 use Rattle.finite.specs.Refusals.{AllTell, no_more, one_more}

@@ -1,11 +1,7 @@
 -- Refusals 8, 9 and 10 asked node by node, as the code asks. A leaf's species is borne by one node alone exactly when no other leaf bears it, once no node but a leaf has
 -- one; a child that is no reticulation is one by a principal arc.
 -- Assumes nothing.
-use mathlib.Core.Path.{◌≡◌, refl, sym, ◌∙◌}
-use mathlib.Core.Logic.{◌≢◌}
-use mathlib.Core.Bool.{Bool, true, false, not, ◌&&◌, ◌||◌}
-use Prim.Native.Nat.{ℕ, ◌≤◌}
-use native.Mathlib.Omega.{arith}
+use Rattle.std.proofs.Common.{◌≡◌, refl, sym, ◌∙◌, ◌≢◌, Bool, true, false, not, ◌&&◌, ◌||◌, ℕ, ◌≤◌, arith}
 use Rattle.finite.specs.Tests.{same}
 use Rattle.finite.specs.Range.{any, every, children}
 use Rattle.finite.proofs.Cases.{by_bool, by_eq, clash}

@@ -1,2 +1,3 @@
 pub mod ShortForms
 pub mod Counts
+pub mod Arcs

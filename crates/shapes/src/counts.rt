@@ -1,15 +1,12 @@
 // What is counted once for the refusals 8, 9 and 10: the arcs out of each node, and the nodes of each species.
 ghost use Rattle.std.specs.Prelude.{◌≡◌, ◌≤◌};
-ghost use Rattle.finite.specs.Range.{children};
-ghost use Rattle.finite.specs.Tables.{zeros, filled};
-ghost use Rattle.layout.specs.Lines.{nodes_in, principal, secondary};
-ghost use Rattle.shapes.specs.inner.ShortForms.{plain_parent, plain_parent_at};
-ghost use Rattle.shapes.specs.inner.Counts.{Zeros, Counted};
+ghost use Rattle.finite.specs.Tables.{at};
+ghost use Rattle.layout.specs.Lines.{nodes_of};
+ghost use Rattle.shapes.specs.inner.ShortForms.{plain_parent};
+ghost use Rattle.shapes.specs.inner.Counts.{Counted};
 
-use layout::lines;
-use layout::lines::{Lines, principal, secondary};
-use tables::column::{Column, child_counts, count_at};
-use text_lines::FIELDS;
+use layout::lines::Lines;
+use tables::{Column, child_counts, fill};
 
 #[derive(Clone, Copy)]
 pub struct Counts {
@@ -23,37 +20,34 @@ pub struct Counts {
 
 // The principal parent of a node that is no reticulation, else 0.
 #[tactic(auto, unfolding(crate::specs::inner::ShortForms::plain_parent, finite::specs::Tests::same))]
-fn plain_parent(lines: &Lines, v: usize) -> usize
+fn plain_parent(lines: &Lines, v: usize) -> u32
     requires { v ≤ 127 }
-    ensures { result ≡ plain_parent (principal lines.now v) (secondary lines.now v) }
+    ensures { result ≡ plain_parent (at lines.now.nodes.principal v) (at lines.now.nodes.secondary v) }
 {
-    if secondary(lines, v) == 0 {
-        principal(lines, v)
+    if lines.nodes.secondary[v] == 0 {
+        lines.nodes.principal[v]
     } else {
         0
     }
 }
 
-// The arcs out of each node that lead to no reticulation: all are principal.
-fn plain_counts(n: usize, lines: &Lines, plains: &mut Column)
-    requires { (n ≤ 127) × (plains.old ≡ zeros) }
-    ensures { plains.new ≡ filled n zeros (children n (plain_parent_at (nodes_in n lines.now))) }
+// All the counts. The arcs that lead to no reticulation are all principal: they are counted by the parents of the nodes that are none.
+#[tactic(auto, unfolding(finite::specs::Tables::zeros))]
+pub fn counted(lines: &Lines) -> Counts
+    ensures { Counted (nodes_of lines.now) result }
 {
-    for v in 1..=n {
-        count_at(n, plain_parent(lines, v), plains);
-    }
-    plains[0] = 0;
-}
-
-// All the counts, where zeros stand.
-#[tactic(auto, using(crate::proofs::AsRead::counts_filled))]
-pub fn fill(n: usize, lines: &Lines, counts: &mut Counts)
-    requires limits { n ≤ 127 }
-    requires zeros { Zeros counts.old }
-    ensures { Counted (nodes_in n lines.now) counts.new }
-{
-    child_counts(n, lines, lines::PRINCIPAL, FIELDS, &mut counts.principals);
-    child_counts(n, lines, lines::SECONDARY, FIELDS, &mut counts.secondaries);
-    child_counts(n, lines, lines::NODE_SPECIES, FIELDS, &mut counts.bearers);
-    plain_counts(n, lines, &mut counts.plains);
+    let n = lines.header.nodes;
+    let mut counts = Counts {
+        principals: [0; 128],
+        secondaries: [0; 128],
+        plains: [0; 128],
+        bearers: [0; 128],
+    };
+    child_counts(n, &lines.nodes.principal, &mut counts.principals);
+    child_counts(n, &lines.nodes.secondary, &mut counts.secondaries);
+    child_counts(n, &lines.nodes.species, &mut counts.bearers);
+    let mut plain = [0; 128];
+    fill(n, |v| plain_parent(lines, v), &mut plain);
+    child_counts(n, &plain, &mut counts.plains);
+    counts
 }

@@ -1,4 +1,3 @@
-pub mod Storing
 pub mod Limits
 pub mod Reading
 pub mod Refusals

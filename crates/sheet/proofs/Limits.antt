@@ -1,10 +1,6 @@
 -- The limits of a header as a test and as inequalities: each is a conjunction of the same seven facts.
 -- Assumes nothing.
-use Prim.Native.Nat.{ℕ}
-use mathlib.Core.Path.{◌≡◌, sym}
-use mathlib.Core.Bool.{true, false}
-use mathlib.Core.List.{List}
-use native.Mathlib.Omega.{arith}
+use Rattle.std.proofs.Common.{ℕ, ◌≡◌, sym, true, false, List, arith}
 use Rattle.finite.specs.Tests.{under}
 use Rattle.finite.specs.Tables.{at}
 use Rattle.finite.proofs.Cases.{by_bool}

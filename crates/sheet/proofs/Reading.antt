@@ -1,112 +1,143 @@
--- The header's answer from what reading its line told, and the turns of the loops over the later lines. A malformed line bears five zeros, so
--- a line that bears its number, which is not 0, is well formed (`node_numbered_lem`, `gene_numbered_lem`): the cells tell all that 5 asks.
+-- The header's answer from what reading its line told, and the turns of the loops over the later lines: a line that is read passes its test, and its
+-- numbers go into the columns; one that is not fails it, and so fails the test of all.
 -- Assumes nothing.
-use Prim.Native.Nat.{ℕ, ◌+◌, ◌*◌, ◌≤◌, ◌<◌}
-use mathlib.Core.Path.{◌≡◌, refl, sym, ap, ◌∙◌}
-use mathlib.Core.Logic.{◌≢◌}
-use mathlib.Core.Bool.{Bool, true, false, ◌&&◌, not}
-use mathlib.Core.List.{List}
-use lib.ListN.{length, replicate}
-use native.Mathlib.Omega.{arith}
+use Rattle.std.proofs.Common.{◌≡◌, ℕ, zero, suc, ◌+◌, ◌-◌, ◌*◌, ◌≤◌, List, set, Bool, true, false, ◌&&◌, not, is_some, refl, sym, ap, arith, Option, Some, None, Ok, Err}
 use Rattle.finite.specs.Tests.{same}
-use Rattle.finite.specs.Tables.{at}
-use Rattle.finite.proofs.Cases.{by_bool, clash}
-use Rattle.finite.proofs.Tests.{is_same, same_is, not_same, and_no_r, told_not_yes, told_not_no}
-use Rattle.text_lines.specs.Lines.{field_count, line_length, line_at}
+use Rattle.finite.specs.Range.{every}
+use Rattle.finite.specs.Tables.{at, zeros, filled}
+use Rattle.finite.proofs.Every.{every_fails}
+use Rattle.finite.proofs.Tests.{told_not_yes, told_not_no}
+use Rattle.text_lines.specs.Lines.{line_length, line_at, told_at}
 use Rattle.columns.specs.declared.Cursor.{Cursor}
-use Rattle.std.specs.Prelude.{Option, Some, None, is_some}
-use Rattle.text_lines.proofs.Lines.{malformed_zero}
-use Rattle.std.specs.Prelude.{Ok, Err}
 use Rattle.refusals.specs.declared.Refusal.TheVariants.{NoHeader, BeyondLimits}
 use Rattle.layout.specs.Headers.{WithinLimits}
-use Rattle.sheet.specs.Sheets.{lines_put, all_lines, line_no, is_line, cell, header_by, limits, refusal3, refusal4, header_of, whole, node_line, gene_line, cells_of, node_numbered, gene_fields_fit, gene_numbered}
+use Rattle.layout.specs.declared.lines.NodeColumns.{NodeColumns}
+use Rattle.layout.specs.declared.lines.GeneColumns.{GeneColumns}
+use Rattle.sheet.specs.Sheets.{line_no, is_line, cell, header_by, limits, refusal3, refusal4, header_of, node_line, gene_line, told, node_columns, gene_columns}
 use Rattle.sheet.proofs.Limits.{limits_is}
-use Rattle.sheet.proofs.Storing.{one_line, cells_at}
 
 -- a header that passes the test of the limits
 pub within : (h : List ℕ) (c : Bool) → c ≡ limits h → not c ≡ false → WithinLimits (header_by h)
 within h c ec u = limits_is h (told_not_yes c _ ec u)
 
+some_is : {A : Type 0} {x y : A} → ◌≡◌ {A = Option A} (Some x) (Some y) → x ≡ y
+some_is e = cc
+
+not_some : {A : Type 0} {x : A} {B : Type 0} → ◌≡◌ {A = Option A} (Some x) None → B
+not_some e = let z : ◌≡◌ {A = ℕ} 0 1 = cc in absurd (omega arith)
+
+pair_first : {x y : List ℕ} {c b : Cursor} → ◌≡◌ {A = List ℕ × Cursor} (x, c) (y, b) → x ≡ y
+pair_first e = ap (λ (p : List ℕ × Cursor). p.0) e
+
+-- a line is told where it is read
+pub line_some : (s : List ℕ) (i : ℕ) (ns : List ℕ) (c : Cursor) → Some (ns, c) ≡ told_at (line_at s (line_length * i)).line (line_at s (line_length * i)).end
+    → Some ns ≡ told (is_line s i) (line_no s i).line
+unfolding is_line line_no
+line_some s i ns c e = go (line_at s (line_length * i)).end e
+  where
+    go : (d : Option Cursor) → Some (ns, c) ≡ told_at (line_at s (line_length * i)).line d → Some ns ≡ told (is_some d) (line_at s (line_length * i)).line
+    go (Some b) q = ap Some (pair_first (some_is q))
+    go None q = not_some q
+
+pub line_none : (s : List ℕ) (i : ℕ) → None ≡ told_at (line_at s (line_length * i)).line (line_at s (line_length * i)).end → None ≡ told (is_line s i) (line_no s i).line
+unfolding is_line line_no
+line_none s i e = go (line_at s (line_length * i)).end e
+  where
+    go : (d : Option Cursor) → None ≡ told_at (line_at s (line_length * i)).line d → None ≡ told (is_some d) (line_at s (line_length * i)).line
+    go (Some b) q = not_some (sym q)
+    go None q = refl
+
+-- what is told where something is told, and where nothing is
+told_so : (p : Bool) (line ns : List ℕ) → Some ns ≡ told p line → (p ≡ true) × (ns ≡ line)
+told_so true line ns e = (refl, some_is e)
+told_so false line ns e = not_some e
+
+not_told : (p : Bool) (line : List ℕ) → None ≡ told p line → p ≡ false
+not_told true line e = not_some (sym e)
+not_told false line e = refl
+
+-- a line of node v, and one of gene g: told by its line and its number, and by its last two fields
+module _ (s : List ℕ) (v : ℕ) where
+  pub node_unread : None ≡ told (is_line s v) (line_no s v).line → None ≡ told (node_line s v) (line_no s v).line
+  unfolding node_line
+  node_unread e = rw (not_told _ _ e)
+
+  module _ (ns : List ℕ) (e : Some ns ≡ told (is_line s v) (line_no s v).line) where
+    pub node_read : (r : Bool) → r ≡ same (at ns 0) v → not r ≡ false → Some ns ≡ told (node_line s v) (line_no s v).line
+    unfolding node_line cell
+    node_read r er q = let t = told_so _ _ _ e in rw (t.0, ← t.1, told_not_yes r _ er q) refl
+
+    pub node_misnumbered : (r : Bool) → r ≡ same (at ns 0) v → not r ≡ true → None ≡ told (node_line s v) (line_no s v).line
+    unfolding node_line cell
+    node_misnumbered r er q = let t = told_so _ _ _ e in rw (t.0, ← t.1, told_not_no r _ er q)
+
+module _ (s : List ℕ) (n g : ℕ) where
+  pub gene_unread : None ≡ told (is_line s (n + g)) (line_no s (n + g)).line → None ≡ told (gene_line s n g) (line_no s (n + g)).line
+  unfolding gene_line
+  gene_unread e = rw (not_told _ _ e)
+
+  module _ (ns : List ℕ) (e : Some ns ≡ told (is_line s (n + g)) (line_no s (n + g)).line) where
+    pub gene_read : (r : Bool) → r ≡ (same (at ns 0) g && same (at ns 3) 0 && same (at ns 4) 0) → not r ≡ false → Some ns ≡ told (gene_line s n g) (line_no s (n + g)).line
+    unfolding gene_line cell
+    gene_read r er q = let t = told_so _ _ _ e in rw (t.0, ← t.1, told_not_yes r _ er q) refl
+
+    pub gene_misnumbered : (r : Bool) → r ≡ (same (at ns 0) g && same (at ns 3) 0 && same (at ns 4) 0) → not r ≡ true → None ≡ told (gene_line s n g) (line_no s (n + g)).line
+    unfolding gene_line cell
+    gene_misnumbered r er q = let t = told_so _ _ _ e in rw (t.0, ← t.1, told_not_no r _ er q)
+
+-- the turns of the loops over the lines, at v or g, after which those up to u are read, and their ends
+module _ (s : List ℕ) where
+  pub nodes_start : record { principal = zeros; secondary = zeros; stamp = zeros; species = zeros } ≡ node_columns s 0
+  unfolding node_columns filled
+  nodes_start = refl
+
+  pub nodes_turn : (v u : ℕ) (l : NodeColumns) (ns : List ℕ) → 1 ≤ v → u ≡ v → Some ns ≡ told (node_line s v) (line_no s v).line → every (v - 1) (node_line s) ≡ true → l ≡ node_columns s (v - 1)
+      → (every u (node_line s) ≡ true)
+      × (record { principal = set l.principal v (at ns 1); secondary = set l.secondary v (at ns 2); stamp = set l.stamp v (at ns 3); species = set l.species v (at ns 4) } ≡ node_columns s u)
+  unfolding every node_columns filled cell
+  nodes_turn zero u l ns low e t all is = absurd (omega arith)
+  nodes_turn (suc k) u l ns low e t all is =
+      let q : suc k - 1 ≡ k = omega arith in
+      let r = told_so _ _ _ t in
+      rw (e, r.0, r.1, is, q) (rw q at all, refl)
+
+  pub nodes_stop : (n v : ℕ) → 1 ≤ v → v ≤ n → None ≡ told (node_line s v) (line_no s v).line → every n (node_line s) ≡ false
+  nodes_stop n v a b e = every_fails n v (node_line s) a b (not_told _ _ e)
+
+  pub nodes_end : (n v : ℕ) (l : NodeColumns) → n ≤ v → v ≤ n → (every v (node_line s) ≡ true) × (l ≡ node_columns s v) → (every n (node_line s) ≡ true) × (l ≡ node_columns s n)
+  nodes_end n v l a b h = let e : v ≡ n = omega arith in rw e at h
+
+module _ (s : List ℕ) (n : ℕ) where
+  pub genes_start : record { parent = zeros; species = zeros } ≡ gene_columns s n 0
+  unfolding gene_columns filled
+  genes_start = refl
+
+  pub genes_turn : (g u : ℕ) (l : GeneColumns) (ns : List ℕ) → 1 ≤ g → u ≡ g → Some ns ≡ told (gene_line s n g) (line_no s (n + g)).line → every (g - 1) (gene_line s n) ≡ true → l ≡ gene_columns s n (g - 1)
+      → (every u (gene_line s n) ≡ true) × (record { parent = set l.parent g (at ns 1); species = set l.species g (at ns 2) } ≡ gene_columns s n u)
+  unfolding every gene_columns filled cell
+  genes_turn zero u l ns low e t all is = absurd (omega arith)
+  genes_turn (suc k) u l ns low e t all is =
+      let q : suc k - 1 ≡ k = omega arith in
+      let r = told_so _ _ _ t in
+      rw (e, r.0, r.1, is, q) (rw q at all, refl)
+
+  pub genes_stop : (m g : ℕ) → 1 ≤ g → g ≤ m → None ≡ told (gene_line s n g) (line_no s (n + g)).line → every m (gene_line s n) ≡ false
+  genes_stop m g a b e = every_fails m g (gene_line s n) a b (not_told _ _ e)
+
+  pub genes_end : (m g : ℕ) (l : GeneColumns) → m ≤ g → g ≤ m → (every g (gene_line s n) ≡ true) × (l ≡ gene_columns s n g) → (every m (gene_line s n) ≡ true) × (l ≡ gene_columns s n m)
+  genes_end m g l a b h = let e : g ≡ m = omega arith in rw e at h
+
 -- the header, from what reading line 0 told
-module _ (s h : List ℕ) (eh : h ≡ lines_put (replicate field_count 0) s 1) (b : Bool) (eb : b ≡ all_lines s 1) where
-  line_is : h ≡ (line_no s 0).line
-  line_is = eh ∙ one_line (replicate field_count 0) s refl
-
-  found_is : b ≡ is_line s 0
-  unfolding all_lines
-  found_is = eb ∙ by_bool (is_line s 0) (λ t. rw t) (λ t. rw t)
-
-  pub no_header : not b ≡ true → Err NoHeader ≡ header_of s
+module _ (s : List ℕ) where
+  pub no_header : None ≡ told (is_line s 0) (line_no s 0).line → Err NoHeader ≡ header_of s
   unfolding header_of refusal3
-  no_header t = rw (told_not_no b _ found_is t)
+  no_header e = rw (not_told _ _ e)
 
-  pub header_beyond : not b ≡ false → (c : Bool) → c ≡ limits h → not c ≡ true → Err BeyondLimits ≡ header_of s
-  unfolding header_of refusal3 refusal4
-  header_beyond t c ec u = rw (told_not_yes b _ found_is t, ← line_is, told_not_no c _ ec u)
+  module _ (h : List ℕ) (e : Some h ≡ told (is_line s 0) (line_no s 0).line) (c : Bool) (ec : c ≡ limits h) where
+    pub header_beyond : not c ≡ true → Err BeyondLimits ≡ header_of s
+    unfolding header_of refusal3 refusal4
+    header_beyond u = let t = told_so _ _ _ e in rw (t.0, ← t.1, told_not_no c _ ec u)
 
-  pub header_within : not b ≡ false → (c : Bool) → c ≡ limits h → not c ≡ false
-      → Ok (record { nodes = at h 0; genes = at h 1; duplication = at h 2; transfer = at h 3; loss = at h 4 }) ≡ header_of s
-  unfolding header_of refusal3 refusal4
-  header_within t c ec u = rw (told_not_yes b _ found_is t, ← line_is, told_not_yes c _ ec u)
-
--- the length rule
-pub is_whole : (s : List ℕ) (n m l : ℕ) → l ≡ line_length * (1 + n + m) → length s ≡ l → true ≡ whole s n m
-unfolding whole
-is_whole s n m l e q = sym (is_same (q ∙ e))
-
-pub not_whole : (s : List ℕ) (n m l : ℕ) → l ≡ line_length * (1 + n + m) → (length s ≡ l → ⊥) → false ≡ whole s n m
-unfolding whole
-not_whole s n m l e q = sym (not_same (λ h. q (h ∙ sym e)))
-
--- a gene line's three fields
-pub gene_fields_lem : (a b c g : ℕ) (r : Bool) → r ≡ same a g → not r ≡ false → b ≡ 0 → c ≡ 0 → true ≡ gene_fields_fit a b c g
-unfolding gene_fields_fit
-gene_fields_lem a b c g r e t eb ec = rw (told_not_yes r (same a g) e t, is_same eb, is_same ec)
-
-pub gene_number : (a b c g : ℕ) (r : Bool) → r ≡ same a g → not r ≡ true → false ≡ gene_fields_fit a b c g
-unfolding gene_fields_fit
-gene_number a b c g r e t = rw (told_not_no r (same a g) e t)
-
-pub gene_fourth : (a b c g : ℕ) → (b ≡ 0 → ⊥) → false ≡ gene_fields_fit a b c g
-unfolding gene_fields_fit
-gene_fourth a b c g d = rw (not_same d, and_no_r (same a g) false refl)
-
-pub gene_fifth : (a b c g : ℕ) → (c ≡ 0 → ⊥) → false ≡ gene_fields_fit a b c g
-unfolding gene_fields_fit
-gene_fifth a b c g d = rw (not_same d, and_no_r (same a g && same b 0) false refl)
-
--- the tests of the loops over the lines
-pub node_told : (cells : List ℕ) (w : ℕ) (r : Bool) → r ≡ same (at cells (field_count * w)) w → r ≡ node_numbered cells w
-unfolding node_numbered
-node_told cells w r e = e
-
-pub gene_told : (cells : List ℕ) (n h : ℕ) (r : Bool)
-    → r ≡ gene_fields_fit (at cells (field_count * (n + h))) (at cells (field_count * (n + h) + 3)) (at cells (field_count * (n + h) + 4)) h → r ≡ gene_numbered cells n h
-unfolding gene_numbered
-gene_told cells n h r e = e
-
-not_found : (d : Option Cursor) → is_some d ≡ false → d ≡ None
-not_found (Some c) e = clash refl e
-not_found None e = refl
-
--- where a line's number is not 0, it is well formed
-numbered_line : (s : List ℕ) (i k : ℕ) → k ≢ 0 → same (cell s i 0) k ≡ true → is_line s i ≡ true
-unfolding cell is_line line_no
-numbered_line s i k d t = by_bool (is_some (line_at s (line_length * i)).end) (λ e. e)
-    (λ e. absurd (d (sym (same_is _ _ t) ∙ malformed_zero s (line_length * i) 0 (not_found (line_at s (line_length * i)).end e))))
-
-numbered : (s : List ℕ) (i k : ℕ) → k ≢ 0 → (is_line s i && same (cell s i 0) k) ≡ same (cell s i 0) k
-numbered s i k d = by_bool (same (cell s i 0) k) (λ t. rw (t, numbered_line s i k d t)) (λ t. rw t (and_no_r (is_line s i) false refl))
-
--- the cells tell whether the node lines and the gene lines are as 5 asks
-pub node_numbered_lem : (s : List ℕ) (k v : ℕ) → k ≤ 255 → 1 ≤ v → v < k → node_numbered (cells_of s k) v ≡ node_line s v
-unfolding node_numbered node_line
-node_numbered_lem s k v few l u =
-    let e : at (cells_of s k) (field_count * v) ≡ cell s v 0 = ap (at (cells_of s k)) (omega arith) ∙ cells_at s k v 0 few u (omega arith) in
-    rw e (sym (numbered s v v (omega arith)))
-
-pub gene_numbered_lem : (s : List ℕ) (k n g : ℕ) → k ≤ 255 → 1 ≤ g → n + g < k → gene_numbered (cells_of s k) n g ≡ gene_line s n g
-unfolding gene_numbered gene_fields_fit gene_line
-gene_numbered_lem s k n g few l u =
-    let e : at (cells_of s k) (field_count * (n + g)) ≡ cell s (n + g) 0 = ap (at (cells_of s k)) (omega arith) ∙ cells_at s k (n + g) 0 few u (omega arith) in
-    rw (e, cells_at s k (n + g) 3 few u (omega arith), cells_at s k (n + g) 4 few u (omega arith), numbered s (n + g) g (omega arith))
+    pub header_within : not c ≡ false → Ok (record { nodes = at h 0; genes = at h 1; duplication = at h 2; transfer = at h 3; loss = at h 4 }) ≡ header_of s
+    unfolding header_of refusal3 refusal4
+    header_within u = let t = told_so _ _ _ e in rw (t.0, ← t.1, told_not_yes c _ ec u)

@@ -1,29 +1,23 @@
 -- The refusals 3, 4 and 5 as tests are those that a reader of 01 would state. A line is found just where the bytes are a line of numbers
 -- (`line_is` of columns), and a line has only one reading (`same_cells`), so each test over the lines is the statement about each line.
 -- Assumes nothing.
-use Prim.Native.Nat.{ℕ, ◌+◌, ◌*◌, ◌≤◌, ◌<◌}
-use mathlib.Core.Path.{◌≡◌, refl, sym, ◌∙◌, subst}
-use mathlib.Core.Logic.{◌↔◌, inl, inr}
-use mathlib.Core.Bool.{Bool, true, false, ◌&&◌}
-use mathlib.Core.List.{List}
-use native.Mathlib.Omega.{arith}
+use Rattle.std.proofs.Common.{ℕ, ◌+◌, ◌*◌, ◌<◌, ◌≡◌, refl, sym, ◌∙◌, subst, ◌↔◌, inl, inr, Bool, true, false, ◌&&◌, List, arith}
 use Rattle.finite.specs.Tests.{same}
 use Rattle.finite.specs.Range.{every}
 use Rattle.finite.specs.Tables.{at}
 use Rattle.finite.proofs.Cases.{by_bool, clash}
 use Rattle.finite.proofs.Tests.{is_same, same_is, and_l, and_r, not_true, not_false, not_yes}
-use Rattle.finite.proofs.Every.{every_at, is_every, every_same}
+use Rattle.finite.proofs.Every.{every_at, is_every}
 use Rattle.layout.specs.Headers.{WithinLimits}
 use Rattle.layout.specs.declared.Header.{Header}
 use Rattle.text_lines.specs.Lines.{field_count, line_length, line_at, LineIs}
 use Rattle.columns.specs.declared.Cursor.{Cursor}
 use Rattle.std.specs.Prelude.{Option, Some, None, is_some}
 use Rattle.text_lines.proofs.Lines.{line_is, small_read, one_line}
-use Rattle.sheet.specs.Sheets.{line_no, is_line, cell, header_in, header_by, header_of, nodes, genes, limits, Refusal3, Refusal4, Refusal5, HeadedIs, refusal3, refusal4, whole, node_line, gene_line, refusal5, Line, NodeLine, GeneLine, WellFormed, cells_of, node_numbered, gene_numbered}
+use Rattle.sheet.specs.Sheets.{line_no, is_line, cell, header_in, header_by, header_of, nodes, genes, limits, Refusal3, Refusal4, Refusal5, HeadedIs, refusal3, refusal4, whole, node_line, gene_line, refusal5, Line, NodeLine, GeneLine, WellFormed}
 use Rattle.std.specs.Prelude.{Result}
 use Rattle.refusals.specs.declared.Refusal.{Refusal}
 use Rattle.sheet.proofs.Limits.{limits_is, is_limits}
-use Rattle.sheet.proofs.Reading.{node_numbered_lem, gene_numbered_lem}
 
 -- a line that is found is the line of its cells
 pub line_found : (s : List ℕ) (i : ℕ) → is_line s i ≡ true → Line s i (line_no s i).line
@@ -162,17 +156,6 @@ headed_is s = by_bool (refusal3 s)
 
 pub headed_told : (s : List ℕ) {r : Result Header Refusal} → r ≡ header_of s → (r ≡ header_of s) × HeadedIs s r
 headed_told s {r} e = (e, subst (λ (x : Result Header Refusal). HeadedIs s x) (sym e) (headed_is s))
-
--- what the cells of 1 + n + m lines tell of 5
-module _ (s : List ℕ) (few_nodes : nodes s ≤ 127) (few_genes : genes s ≤ 127) where
-  abbrev count : ℕ
-  count = 1 + nodes s + genes s
-
-  pub nodes_told : every (nodes s) (node_numbered (cells_of s (1 + nodes s + genes s))) ≡ every (nodes s) (node_line s)
-  nodes_told = every_same (nodes s) _ _ (λ v l u. node_numbered_lem s (1 + nodes s + genes s) v (omega arith) l (omega arith))
-
-  pub genes_told : every (genes s) (gene_numbered (cells_of s (1 + nodes s + genes s)) (nodes s)) ≡ every (genes s) (gene_line s (nodes s))
-  genes_told = every_same (genes s) _ _ (λ g l u. gene_numbered_lem s (1 + nodes s + genes s) (nodes s) g (omega arith) l (omega arith))
 
 -- every cell has a field
 pub cell_small : (s : List ℕ) (i k : ℕ) → cell s i k < 1000000

@@ -1,16 +1,17 @@
 -- The sheet and the refusals 3, 4 and 5 (01, "The sheet" and "Refusals", the typist's).
 -- Assumes nothing.
-use Rattle.std.specs.Prelude.{ℕ, zero, suc, ◌+◌, ◌*◌, ◌≤◌, Bool, true, cond, ◌&&◌, not, List, ◌≡◌, ◌⊎◌, length, get_or, take, drop, replicate, is_some, Result, Ok, Err}
+use Rattle.std.specs.Prelude.{ℕ, ◌+◌, ◌*◌, ◌≤◌, Bool, true, false, cond, ◌&&◌, not, List, ◌≡◌, ◌⊎◌, length, get_or, take, drop, is_some, Option, Some, None, Result, Ok, Err}
 use Rattle.finite.specs.Tests.{same, under}
 use Rattle.finite.specs.Range.{every}
-use Rattle.finite.specs.Tables.{at}
-use Rattle.columns.specs.Writing.{put}
-use Rattle.text_lines.specs.Lines.{field_count, line_length, Reading, line_at, line_of, Small}
+use Rattle.finite.specs.Tables.{at, zeros, filled}
+use Rattle.text_lines.specs.Lines.{line_length, Reading, line_at, line_of, Small}
 use Rattle.refusals.specs.declared.Refusal.{Refusal}
-use Rattle.refusals.specs.declared.Refusal.TheVariants.{NoHeader, BeyondLimits}
-use Rattle.layout.specs.Lines.{cell_count}
+use Rattle.refusals.specs.declared.Refusal.TheVariants.{NoHeader, BeyondLimits, BadLines}
 use Rattle.layout.specs.Headers.{WithinLimits}
 use Rattle.layout.specs.declared.Header.{Header}
+use Rattle.layout.specs.declared.lines.NodeColumns.{NodeColumns}
+use Rattle.layout.specs.declared.lines.GeneColumns.{GeneColumns}
+use Rattle.layout.specs.declared.lines.Lines.{Lines}
 
 -- line i of the sheet, the header being line 0; a malformed line has five zeros
 unfoldable pub line_no : List ℕ → ℕ → Reading
@@ -123,26 +124,36 @@ abbrev pub HeadedIs : List ℕ → Result Header Refusal → Type 0
 HeadedIs s (Ok h) = IsHeader s h
 HeadedIs s (Err r) = ((r ≡ NoHeader) × Refusal3 s) ⊎ ((r ≡ BeyondLimits) × Refusal4 s)
 
--- the numbers of the first k lines, line by line, put over the front of d
-unfoldable pub lines_put : List ℕ → List ℕ → ℕ → List ℕ
-lines_put d s zero = d
-lines_put d s (suc k) = put (lines_put d s k) (field_count * k) (line_no s k).line
+-- what is told of a line: its numbers, where it passes a test
+abbrev pub told : Bool → List ℕ → Option (List ℕ)
+told passes line = cond passes (Some line) None
 
--- whether each of the first k lines is well formed
-unfoldable pub all_lines : List ℕ → ℕ → Bool
-all_lines s zero = true
-all_lines s (suc k) = all_lines s k && is_line s k
+-- the lines of n nodes by column, and those of m genes behind them
+unfoldable pub node_columns : List ℕ → ℕ → NodeColumns
+node_columns s n = record {
+  principal = filled n zeros (λ v. cell s v 1);
+  secondary = filled n zeros (λ v. cell s v 2);
+  stamp = filled n zeros (λ v. cell s v 3);
+  species = filled n zeros (λ v. cell s v 4);
+}
 
--- the numbers of the first k lines in an array that has room for those of all lines, 0 where no line was read
-unfoldable pub cells_of : List ℕ → ℕ → List ℕ
-cells_of s k = lines_put (replicate cell_count 0) s k
+unfoldable pub gene_columns : List ℕ → (n m : ℕ) → GeneColumns
+gene_columns s n m = record { parent = filled m zeros (λ g. cell s (n + g) 1); species = filled m zeros (λ g. cell s (n + g) 2) }
 
--- the lines as an array of cells has them: a malformed line bears the number 0
-unfoldable pub node_numbered : List ℕ → ℕ → Bool
-node_numbered cells v = same (at cells (field_count * v)) v
+-- they are read where all are well formed
+abbrev pub NodesRead : List ℕ → ℕ → Option NodeColumns → Type 0
+NodesRead s n (Some l) = (every n (node_line s) ≡ true) × (l ≡ node_columns s n)
+NodesRead s n None = every n (node_line s) ≡ false
 
-unfoldable pub gene_fields_fit : ℕ → ℕ → ℕ → ℕ → Bool
-gene_fields_fit number fourth fifth g = same number g && same fourth 0 && same fifth 0
+abbrev pub GenesRead : List ℕ → (n m : ℕ) → Option GeneColumns → Type 0
+GenesRead s n m (Some l) = (every m (gene_line s n) ≡ true) × (l ≡ gene_columns s n m)
+GenesRead s n m None = every m (gene_line s n) ≡ false
 
-unfoldable pub gene_numbered : List ℕ → ℕ → ℕ → Bool
-gene_numbered cells n g = gene_fields_fit (at cells (field_count * (n + g))) (at cells (field_count * (n + g) + 3)) (at cells (field_count * (n + g) + 4)) g
+-- what 5 asks of a sheet of n nodes and m genes, as a test
+abbrev pub formed : List ℕ → (n m : ℕ) → Bool
+formed s n m = whole s n m && every n (node_line s) && every m (gene_line s n)
+
+-- the lines after a header that was accepted: all of them, or refusal 5
+abbrev pub LinesRead : List ℕ → Header → Result Lines Refusal → Type 0
+LinesRead s h (Ok l) = (formed s h.nodes h.genes ≡ true) × (l.header ≡ h) × (l.nodes ≡ node_columns s h.nodes) × (l.genes ≡ gene_columns s h.nodes h.genes)
+LinesRead s h (Err r) = (formed s h.nodes h.genes ≡ false) × (r ≡ BadLines)

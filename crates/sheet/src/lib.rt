@@ -1,36 +1,30 @@
 // A family sheet: from bytes to the numbers of its lines, and the refusals 3, 4 and 5.
 #![tactic(auto)]
 
-ghost use Rattle.std.specs.Prelude.{◌≡◌, ◌+◌, ◌*◌, ◌≤◌, ◌<◌, length};
+ghost use Rattle.std.specs.Prelude.{◌≡◌, ◌+◌, ◌≤◌, ◌&&◌};
+ghost use Rattle.finite.specs.Tables.{at};
 ghost use Rattle.finite.specs.Tests.{same};
-ghost use Rattle.finite.specs.Range.{every};
-ghost use Rattle.text_lines.specs.Lines.{field_count};
-ghost use Rattle.sheet.specs.Sheets.{all_lines, lines_put, header_of, HeadedIs, limits, whole, cells_of, node_numbered, gene_numbered};
+ghost use Rattle.layout.specs.Headers.{WithinLimits};
+ghost use Rattle.sheet.specs.Sheets.{line_no, is_line, node_line, gene_line, header_of, HeadedIs, limits, whole, told, NodesRead, GenesRead, LinesRead};
 
 use columns::Cursor;
 use layout::Header;
-use layout::lines::Lines;
+use layout::lines::{GeneColumns, Lines, NodeColumns};
 use refusals::Refusal;
+use text_lines::{FIELDS, LINE};
 
-// Reads the first lines, each at its place, and puts their numbers, line by line, into what is lent. Tells whether all of them are lines.
-fn read_lines(s: &[u8], count: usize, numbers: &mut [u32]) -> bool
-    requires { (count ≤ 255) × (field_count * count ≤ length numbers.old) }
-    ensures { (result ≡ all_lines s.now count) × (numbers.new ≡ lines_put numbers.old s.now count) }
+// The numbers of line i, read at its place, as the definitions have it: where a line before it is malformed, there is no cursor to go on from.
+fn line(s: &[u8], i: usize) -> Option<[u32; FIELDS]>
+    requires { i ≤ 254 }
+    ensures { result ≡ told (is_line s.now i) (line_no s.now i).line }
 {
-    let mut all = true;
-    for i in 0..count {
-        let start = Cursor {
-            at: text_lines::LINE * i,
-        };
-        let end = text_lines::read_line(s, start, numbers, text_lines::FIELDS * i);
-        all &= end.is_some();
-    }
-    all
+    let (numbers, _) = text_lines::read_line(s, Cursor { at: LINE * i })?;
+    Some(numbers)
 }
 
 // 4: each number of a header line within its limits.
 #[tactic(auto, unfolding(crate::specs::Sheets::limits, finite::specs::Tests::under))]
-fn within_limits(line: &[u32; text_lines::FIELDS]) -> bool
+fn within_limits(line: &[u32; FIELDS]) -> bool
     ensures { result ≡ limits line.now }
 {
     let [nodes, genes, duplication, transfer, loss] = *line;
@@ -44,10 +38,9 @@ fn within_limits(line: &[u32; text_lines::FIELDS]) -> bool
 pub fn read_header(s: &[u8]) -> Result<Header, Refusal>
     ensures { (result ≡ header_of s.now) × HeadedIs s.now result }
 {
-    let mut line = [0; text_lines::FIELDS];
-    if !read_lines(s, 1, &mut line) {
+    let Some(line) = line(s, 0) else {
         return Err(Refusal::NoHeader);
-    }
+    };
     if !within_limits(&line) {
         return Err(Refusal::BeyondLimits);
     }
@@ -60,53 +53,115 @@ pub fn read_header(s: &[u8]) -> Result<Header, Refusal>
     })
 }
 
-// The numbers of the first lines, each line read at its place, put into empty cells.
-pub fn cells(s: &[u8], count: usize, cells: &mut Lines)
-    requires { (count ≤ 255) × (cells.old ≡ cells_of s.now 0) }
-    ensures { cells.new ≡ cells_of s.now count }
-{
-    read_lines(s, count, cells);
-}
-
-// The length rule of 5.
-#[tactic(auto, unfolding(crate::specs::Sheets::whole, finite::specs::Tests::same))]
-pub fn is_whole(s: &[u8], n: usize, m: usize) -> bool
-    requires { (n ≤ 127) × (m ≤ 127) }
-    ensures { result ≡ whole s.now n m }
-{
-    s.len() == text_lines::LINE * (1 + n + m)
-}
-
 // Whether a line bears the number w.
 #[tactic(auto, unfolding(finite::specs::Tests::same))]
-fn bears(number: u32, w: usize) -> bool
-    ensures { result ≡ same number w }
+fn bears(line: &[u32; FIELDS], w: usize) -> bool
+    ensures { result ≡ same (at line.now 0) w }
 {
-    number as usize == w
+    line[0] as usize == w
 }
 
-// Whether the node lines are well formed and in number.
-pub fn nodes_in_order(cells: &Lines, n: usize) -> bool
-    requires { n ≤ 127 }
-    ensures { result ≡ every n (node_numbered cells.now) }
+// Whether a gene line bears the number g, and ends in two zeros.
+#[tactic(auto, unfolding(finite::specs::Tests::same))]
+fn bears_gene(line: &[u32; FIELDS], g: usize) -> bool
+    ensures { result ≡ (same (at line.now 0) g && same (at line.now 3) 0 && same (at line.now 4) 0) }
 {
-    (1..=n).all(|v| bears(cells[text_lines::FIELDS * v], v))
+    bears(line, g) && line[3] == 0 && line[4] == 0
 }
 
-// Whether gene g's line has the number g, and 0 in its fourth and fifth field.
-#[tactic(auto, unfolding(crate::specs::Sheets::gene_numbered, crate::specs::Sheets::gene_fields_fit, finite::specs::Tests::same))]
-fn is_gene_line(cells: &Lines, n: usize, g: usize) -> bool
-    requires { (n ≤ 127) × (g ≤ 127) }
-    ensures { result ≡ gene_numbered cells.now n g }
-{
-    let i = text_lines::FIELDS * (n + g);
-    bears(cells[i], g) && cells[i + 3] == 0 && cells[i + 4] == 0
+// A text whose header was accepted. (Node lines and gene lines have a reader each: they differ in place, test and columns, and a reader of both would take
+// all three.)
+#[derive(Clone, Copy)]
+struct Headed<'a> {
+    text: &'a [u8],
+    header: Header,
+    ghost within: { WithinLimits header },
 }
 
-// Whether the gene lines are well formed, in number and end in two zeros.
-pub fn genes_in_order(cells: &Lines, n: usize, m: usize) -> bool
-    requires { (n ≤ 127) × (m ≤ 127) }
-    ensures { result ≡ every m (gene_numbered cells.now n) }
+impl Headed<'_> {
+    // The length rule of 5.
+    #[tactic(auto, unfolding(crate::specs::Sheets::whole, finite::specs::Tests::same))]
+    fn is_whole(&self) -> bool
+        ensures { result ≡ whole self.now.text.now self.now.header.nodes self.now.header.genes }
+    {
+        self.text.len() == LINE * (1 + self.header.nodes + self.header.genes)
+    }
+
+    // The numbers of node v's line, where it is well formed and in number.
+    fn node(&self, v: usize) -> Option<[u32; FIELDS]>
+        requires { v ≤ self.now.header.nodes }
+        ensures { result ≡ told (node_line self.now.text.now v) (line_no self.now.text.now v).line }
+    {
+        let numbers = line(self.text, v)?;
+        if !bears(&numbers, v) {
+            return None;
+        }
+        Some(numbers)
+    }
+
+    // The numbers of gene g's line, where it is well formed and in number and ends in two zeros.
+    fn gene(&self, g: usize) -> Option<[u32; FIELDS]>
+        requires { g ≤ self.now.header.genes }
+        ensures { result ≡ told (gene_line self.now.text.now self.now.header.nodes g) (line_no self.now.text.now (self.now.header.nodes + g)).line }
+    {
+        let numbers = line(self.text, self.header.nodes + g)?;
+        if !bears_gene(&numbers, g) {
+            return None;
+        }
+        Some(numbers)
+    }
+
+    // The node lines, where all are so.
+    fn nodes(&self) -> Option<NodeColumns>
+        ensures { NodesRead self.now.text.now self.now.header.nodes result }
+    {
+        let mut nodes = NodeColumns {
+            principal: [0; 128],
+            secondary: [0; 128],
+            stamp: [0; 128],
+            species: [0; 128],
+        };
+        for v in 1..=self.header.nodes {
+            let [_, principal, secondary, stamp, species] = self.node(v)?;
+            nodes.principal[v] = principal;
+            nodes.secondary[v] = secondary;
+            nodes.stamp[v] = stamp;
+            nodes.species[v] = species;
+        }
+        Some(nodes)
+    }
+
+    // The gene lines, where all are so.
+    fn genes(&self) -> Option<GeneColumns>
+        ensures { GenesRead self.now.text.now self.now.header.nodes self.now.header.genes result }
+    {
+        let mut genes = GeneColumns {
+            parent: [0; 128],
+            species: [0; 128],
+        };
+        for g in 1..=self.header.genes {
+            let [_, parent, species, ..] = self.gene(g)?;
+            genes.parent[g] = parent;
+            genes.species[g] = species;
+        }
+        Some(genes)
+    }
+}
+
+// The lines after an accepted header.
+pub fn read_lines(s: &[u8], header: Header) -> Result<Lines, Refusal>
+    requires { WithinLimits header }
+    ensures { LinesRead s.now header result }
 {
-    (1..=m).all(|g| is_gene_line(cells, n, g))
+    let sheet = Headed { text: s, header };
+    if !sheet.is_whole() {
+        return Err(Refusal::BadLines);
+    }
+    let nodes = sheet.nodes().ok_or(Refusal::BadLines)?;
+    let genes = sheet.genes().ok_or(Refusal::BadLines)?;
+    Ok(Lines {
+        header,
+        nodes,
+        genes,
+    })
 }

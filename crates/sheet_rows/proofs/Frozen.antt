@@ -1,12 +1,8 @@
 -- What a sheet says, its gene tree and the reported switching as lists: a function is computed anew at each call, and a list once. The lists say the
 -- same at every number that is read, so the report is the same.
 -- Assumes nothing.
-use mathlib.Core.Path.{◌≡◌, refl, sym, ap, ◌∙◌}
-use mathlib.Core.Bool.{Bool, true, false}
-use mathlib.Core.List.{List, ◌++◌}
-use Prim.Native.Nat.{ℕ, suc, ◌+◌, ◌≤◌}
-use native.Mathlib.Omega.{arith}
-use lib.ListN.{replicate, length-replicate}
+use Rattle.std.proofs.Common.{◌≡◌, refl, sym, ap, ◌∙◌, Bool, true, false, List, ◌++◌, ℕ, suc, ◌+◌, ◌≤◌, arith, replicate}
+use lib.ListN.{length-replicate}
 use Rattle.finite.specs.Tests.{same, tally}
 use Rattle.finite.specs.Tables.{at, filled, within}
 use Rattle.finite.specs.Refusals.{verdict}

@@ -1,11 +1,7 @@
 -- A test of a row that computes, and what it means: where it passes, every call that keeps the promise of `score` does what the row says.
 -- Assumes nothing.
-use mathlib.Core.Path.{◌≡◌, sym, ap, ap₂, subst, ◌∙◌}
-use mathlib.Core.Bool.{Bool, true, false, ◌&&◌, not}
-use mathlib.Core.List.{List, [], ◌∷◌, ◌++◌, Memᴰ}
-use Prim.Native.Nat.{ℕ, ◌*◌}
-use lib.ListN.{length, drop}
-use native.Mathlib.Omega.{arith}
+use Rattle.std.proofs.Common.{◌≡◌, sym, ap, ap₂, subst, ◌∙◌, Bool, true, false, ◌&&◌, not, List, [], ◌∷◌, ◌++◌, ℕ, ◌*◌, length, drop, arith}
+use mathlib.Core.List.{Memᴰ}
 use Rattle.finite.specs.Tests.{same}
 use Rattle.finite.proofs.Tests.{same_is, and_l, and_r, not_true, cond_yes, cond_no}
 use Rattle.columns.specs.Fields.{same_bytes}

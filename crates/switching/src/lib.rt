@@ -1,24 +1,24 @@
 // The tree that a network displays, kept for one switching after another: single reticulations are turned, so that a trial of the search fills no table.
 #![tactic(auto)]
 
-ghost use Rattle.std.specs.Prelude.{◌≡◌, ℕ, ◌≤◌, ◌<◌, ◌-◌, length};
-ghost use Rattle.tables.specs.Columns.{entry, column, blank};
+ghost use Rattle.std.specs.Prelude.{◌≡◌, ℕ, ◌≤◌, ◌<◌, ◌-◌};
+ghost use Rattle.finite.specs.Tables.{at};
 ghost use Rattle.topology.specs.Networks.{Sound, Reticulation};
 ghost use Rattle.topology.specs.Switchings.{all_principal};
 ghost use Rattle.topology.specs.Components.{reticulation_count};
-ghost use Rattle.topology.specs.Lines.{network};
-ghost use Rattle.layout.specs.Lines.{principal, secondary, nodes_in};
-ghost use Rattle.layout.specs.inner.Parts.{rank, Parted};
-ghost use Rattle.layout.specs.inner.Tree.{up_column, rank_column, arcs, Held};
+ghost use Rattle.layout.specs.Lines.{network_of};
+ghost use Rattle.layout.specs.inner.Parts.{Parted};
+ghost use Rattle.layout.specs.inner.Tree.{blank, Held};
 ghost use Rattle.optimum.specs.Optimum.{assembled};
 ghost use Rattle.switching.specs.inner.Settings.{bit_of};
 ghost use Rattle.switching.specs.inner.Turning.{parent_taken, arc_moved, Turns, SomeHeld, TurnedTo};
 
-use layout::choices::Choices;
-use layout::{lines, parts, tree};
-use text_lines::FIELDS;
+use layout::lines::Lines;
+use layout::parts::Parts;
+use layout::tree::Tree;
+use tables::Column;
 
-// The bit of the reticulation with j lower-numbered ones in its component, of a setting's k bits: the highest is the lowest-numbered one's.
+// By shift and mask, a form that the rules name: the bit of the reticulation with j lower-numbered ones in its component, of a setting's k bits: the highest is the lowest-numbered one's.
 pub fn bit(x: u32, k: u32, j: u32) -> u32
     requires { (j < k) × (k ≤ 8) }
     ensures { result ≡ bit_of x k j }
@@ -26,116 +26,77 @@ pub fn bit(x: u32, k: u32, j: u32) -> u32
     (x >> (k - 1 - j)) & 1
 }
 
-// Every node takes its principal parent.
-#[tactic(auto, using(tables::proofs::Columns::column_none, tables::proofs::Columns::column_turn, tables::proofs::Columns::column_done))]
-fn principal_parents(n: usize, lines: &lines::Lines, t: &mut tree::Tree)
-    requires { (n ≤ 127) × Sound (network (nodes_in n lines.now)) }
-    ensures { t.new ≡ column up_column n t.old (principal lines.now) }
-{
-    for v in 1..=n {
-        tables::put(t, tree::UP, v, lines::principal(lines, v) as u32);
-    }
-}
-
-#[tactic(auto, using(tables::proofs::Columns::column_none, tables::proofs::Columns::column_turn, tables::proofs::Columns::column_done))]
-fn ranks(n: usize, parts: &parts::Parts, t: &mut tree::Tree)
-    requires { n ≤ 127 }
-    ensures { t.new ≡ column rank_column n t.old (rank parts.now) }
-{
-    for v in 1..=n {
-        tables::put(t, tree::RANK, v, parts::rank(parts, v));
-    }
-}
-
 // The tree of the switching that has every reticulation on principal.
-pub fn start(n: usize, lines: &lines::Lines, parts: &parts::Parts, t: &mut tree::Tree)
-    requires { (n ≤ 127) × Sound (network (nodes_in n lines.now)) × Parted (network (nodes_in n lines.now)) parts.now × (t.old ≡ blank) }
-    ensures { Held (network (nodes_in n lines.now)) all_principal t.new }
+pub fn start(lines: &Lines, parts: &Parts, t: &mut Tree)
+    requires { Sound (network_of lines.now) × Parted (network_of lines.now) parts.now × (t.old ≡ blank) }
+    ensures { Held (network_of lines.now) all_principal t.new }
 {
-    principal_parents(n, lines, t);
-    ranks(n, parts, t);
-    tables::child_counts(n, lines, lines::PRINCIPAL, FIELDS, t, tree::ARCS);
+    let n = lines.header.nodes;
+    tables::fill(n, |v| lines.nodes.principal[v], &mut t.up);
+    tables::fill(n, |v| parts.rank[v], &mut t.rank);
+    tables::child_counts(n, &lines.nodes.principal, &mut t.arcs);
 }
 
 // An on arc that left p leaves q.
-fn move_arc(t: &mut tree::Tree, p: usize, q: usize)
-    requires { (p ≤ 127) × (q ≤ 127) × (length t.old ≡ 512) × (1 ≤ arcs t.old p) × (arcs t.old q ≤ 127) }
-    ensures { t.new ≡ arc_moved t.old p q }
+fn move_arc(arcs: &mut Column, p: usize, q: usize)
+    requires { (p ≤ 127) × (q ≤ 127) × (1 ≤ at arcs.old p) × (at arcs.old q ≤ 127) }
+    ensures { arcs.new ≡ arc_moved arcs.old p q }
 {
-    tables::put(t, tree::ARCS, p, tree::arcs(t, p) - 1);
-    tables::put(t, tree::ARCS, q, tree::arcs(t, q) + 1);
+    arcs[p] -= 1;
+    arcs[q] += 1;
 }
 
-// The parent that reticulation r takes: b is 1 for the secondary one.
-#[tactic(auto, unfolding(crate::specs::inner::Turning::parent_taken, finite::specs::Tests::same))]
-fn parent_taken(lines: &lines::Lines, r: usize, b: u32) -> usize
+// The parent that reticulation r takes.
+#[tactic(auto, unfolding(crate::specs::inner::Turning::parent_taken))]
+fn parent_taken(lines: &Lines, r: usize, to_secondary: bool) -> u32
     requires { r ≤ 127 }
-    ensures { result ≡ parent_taken b (secondary lines.now r) (principal lines.now r) }
+    ensures { result ≡ parent_taken to_secondary (at lines.now.nodes.secondary r) (at lines.now.nodes.principal r) }
 {
-    if b == 1 {
-        lines::secondary(lines, r)
+    if to_secondary {
+        lines.nodes.secondary[r]
     } else {
-        lines::principal(lines, r)
+        lines.nodes.principal[r]
     }
 }
 
-// Turns reticulation r to its secondary parent where b is 1, to its principal one where b is 0. The number of nodes serves the contract alone.
-fn turn(n: usize, lines: &lines::Lines, t: &mut tree::Tree, r: usize, b: u32)
-    requires limits { (n ≤ 127) × (1 ≤ r) × (r ≤ n) × (b ≤ 1) × Sound (network (nodes_in n lines.now)) × Reticulation (network (nodes_in n lines.now)) r }
-    requires some_held { SomeHeld (network (nodes_in n lines.now)) t.old }
-    ensures { Turns (network (nodes_in n lines.now)) r b t.old t.new }
+// Turns reticulation r to its secondary or its principal parent.
+fn turn(lines: &Lines, t: &mut Tree, r: usize, to_secondary: bool)
+    requires limits { (1 ≤ r) × (r ≤ lines.now.header.nodes) × Sound (network_of lines.now) × Reticulation (network_of lines.now) r }
+    requires some_held { SomeHeld (network_of lines.now) t.old }
+    ensures { Turns (network_of lines.now) r to_secondary t.old t.new }
 {
-    if tree::lateral(t, r) == b {
+    if t.lateral[r] == to_secondary {
         return;
     }
-    let q = parent_taken(lines, r, b);
-    move_arc(t, tree::up(t, r), q);
-    tables::put(t, tree::UP, r, q as u32);
-    tables::put(t, tree::LATERAL, r, b);
+    let q = parent_taken(lines, r, to_secondary);
+    move_arc(&mut t.arcs, t.up[r] as usize, q as usize);
+    t.up[r] = q;
+    t.lateral[r] = to_secondary;
 }
 
 // Node r, where it is a reticulation, takes the parent that the setting of its component says.
-fn turn_by_setting(
-    n: usize,
-    lines: &lines::Lines,
-    parts: &parts::Parts,
-    choices: &Choices,
-    k: usize,
-    t: &mut tree::Tree,
-    r: usize,
-)
-    requires limits { (n ≤ 127) × (1 ≤ r) × (r ≤ n) × Sound (network (nodes_in n lines.now)) × Parted (network (nodes_in n lines.now)) parts.now × ((c : ℕ) → reticulation_count (network (nodes_in n lines.now)) c ≤ 8) × (k < 4) }
-    requires turned_to { TurnedTo (network (nodes_in n lines.now)) (assembled (network (nodes_in n lines.now)) (entry choices.now k)) (r - 1) t.old }
-    ensures { TurnedTo (network (nodes_in n lines.now)) (assembled (network (nodes_in n lines.now)) (entry choices.now k)) r t.new }
+fn turn_by_setting(lines: &Lines, parts: &Parts, settings: &Column, t: &mut Tree, r: usize)
+    requires limits { (1 ≤ r) × (r ≤ lines.now.header.nodes) × Sound (network_of lines.now) × Parted (network_of lines.now) parts.now × ((c : ℕ) → reticulation_count (network_of lines.now) c ≤ 8) }
+    requires turned_to { TurnedTo (network_of lines.now) (assembled (network_of lines.now) (at settings.now)) (r - 1) t.old }
+    ensures { TurnedTo (network_of lines.now) (assembled (network_of lines.now) (at settings.now)) r t.new }
 {
-    if lines::secondary(lines, r) == 0 {
+    if lines.nodes.secondary[r] == 0 {
         return;
     }
-    let c = parts::top(parts, r);
-    let x = tables::get(choices, k, c);
-    let b = bit(
-        x,
-        parts::reticulation_count(parts, c),
-        parts::index(parts, r),
-    );
-    turn(n, lines, t, r, b);
+    let c = parts.top[r] as usize;
+    let x = settings[c];
+    let to_secondary = bit(x, parts.reticulation_count[c], parts.index[r]) == 1;
+    turn(lines, t, r, to_secondary);
 }
 
-// The tree of the switching that has at each component the setting that column k holds at its top, whatever the switching was before: the settings are
+// The tree of the switching that has at each component the setting that the column holds at its top, whatever the switching was before: the settings are
 // zeros but for one component in a trial of the search, and the bests for the switching reported.
-pub fn switch(
-    n: usize,
-    lines: &lines::Lines,
-    parts: &parts::Parts,
-    choices: &Choices,
-    k: usize,
-    t: &mut tree::Tree,
-)
-    requires limits { (n ≤ 127) × Sound (network (nodes_in n lines.now)) × Parted (network (nodes_in n lines.now)) parts.now × ((c : ℕ) → reticulation_count (network (nodes_in n lines.now)) c ≤ 8) × (k < 4) }
-    requires some_held { SomeHeld (network (nodes_in n lines.now)) t.old }
-    ensures { Held (network (nodes_in n lines.now)) (assembled (network (nodes_in n lines.now)) (entry choices.now k)) t.new }
+pub fn switch(lines: &Lines, parts: &Parts, settings: &Column, t: &mut Tree)
+    requires limits { Sound (network_of lines.now) × Parted (network_of lines.now) parts.now × ((c : ℕ) → reticulation_count (network_of lines.now) c ≤ 8) }
+    requires some_held { SomeHeld (network_of lines.now) t.old }
+    ensures { Held (network_of lines.now) (assembled (network_of lines.now) (at settings.now)) t.new }
 {
-    for r in 1..=n {
-        turn_by_setting(n, lines, parts, choices, k, t, r);
+    for r in 1..=lines.header.nodes {
+        turn_by_setting(lines, parts, settings, t, r);
     }
 }

@@ -1,4 +1,2 @@
-pub mod Columns
 pub mod Nexts
-pub mod Counts
 pub mod Passes

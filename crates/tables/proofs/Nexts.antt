@@ -1,21 +1,13 @@
 -- The turns of the pass that notes each child at its parent, from the highest down: an entry is the lowest child among those passed.
 -- A child that is its parent's next one replaces the entry, for it is lower; any other leaves the entries of 1 to n as they are.
 -- Assumes nothing.
-use mathlib.Core.Path.{◌≡◌, refl, sym, ap, ◌∙◌}
-use mathlib.Core.Logic.{◌≢◌}
-use mathlib.Core.Bool.{Bool, true, false, ◌&&◌}
-use mathlib.Core.List.{List}
-use Prim.Native.Nat.{ℕ, ◌-◌, ◌≤◌, ◌<◌}
-use native.Mathlib.Omega.{arith}
-use lib.ListN.{length}
+use Rattle.std.proofs.Common.{◌≡◌, ◌≢◌, ℕ, ◌-◌, ◌≤◌, ◌<◌, Bool, true, false, ◌&&◌, refl, sym, ap, ◌∙◌, arith}
 use Rattle.finite.specs.Tests.{same, under}
 use Rattle.finite.specs.Range.{first}
 use Rattle.finite.proofs.Cases.{by_eq, by_less, by_order, clash}
 use Rattle.finite.proofs.Tests.{and_l, and_r, and_yes, and_no_l, and_no_r, is_same, same_is, not_same, is_under, under_is, not_under}
-use Rattle.finite.proofs.Every.{first_is, first_none, first_low, first_only, first_nothing, first_same}
-use Rattle.tables.specs.Columns.{entry, written, column, Clear, Kept}
+use Rattle.finite.proofs.Every.{first_is, first_none, first_low, first_only, first_same}
 use Rattle.tables.specs.Children.{is_next, next, inside, inside_after}
-use Rattle.tables.proofs.Columns.{long, write_here, write_row, write_column, column_is, kept_write, kept_then, kept_column}
 
 -- the place of a child in the pass
 pub inside_out : (n p : ℕ) → n < p → 0 ≡ inside n p
@@ -25,6 +17,9 @@ inside_out n p l = rw (is_under l)
 pub inside_in : (n p : ℕ) → p ≤ n → p ≡ inside n p
 unfolding inside
 inside_in n p l = rw (not_under l)
+
+pub inside_high : (n p : ℕ) → inside n p ≤ n
+inside_high n p = by_less n p (λ h. omega (arith, inside_out n p h)) (λ h. omega (arith, inside_in n p h))
 
 module _ (n : ℕ) (after : ℕ → ℕ) (p w q a : ℕ) (e : q ≡ inside n p) (f : a ≡ after q) where
   pub after_no : w ≤ a → 0 ≡ inside_after n after p w
@@ -77,53 +72,6 @@ module _ (n : ℕ) (f after : ℕ → ℕ) where
   noted_not w p q ep eq v u d = by_eq (f w) v
       (λ e. and_no_l (under (after v) w) (same (f w) v) (not_under (slot_not n after p w q eq v u (sym (ep ∙ e)) d)))
       (λ e. and_no_r (under (after v) w) (same (f w) v) (not_same e))
-
--- the rows 1..n of column k after the children above w; row 0 may hold anything
-pub record Noted (n : ℕ) (f after : ℕ → ℕ) (k w : ℕ) (out : List ℕ) : Type 0 where
-  pub long : length out ≡ 512
-  pub within : (v : ℕ) → 1 ≤ v → v ≤ n → entry out k v ≡ lowest n (is_next f (after v) v) w
-  pub past : (v : ℕ) → n < v → entry out k v ≡ 0
-
-module _ (n : ℕ) (f after : ℕ → ℕ) (k : ℕ) (few : n ≤ 127) (lk : k < 4) where
-  pub noted_start : (out : List ℕ) → Clear k out → Noted n f after k n out
-  noted_start out c = record {
-    long = c.long;
-    within = λ v l u. c.none v ∙ sym (first_nothing n _ (λ x a b. and_no_l (under n x) (is_next f (after v) v x) (not_under b)));
-    past = λ v l. c.none v;
-  }
-
-  pub noted_turn : (w p q : ℕ) (out : List ℕ) → 1 ≤ w → w ≤ n → p ≡ f w → q ≡ inside_after n after p w → q ≤ n → Noted n f after k w out
-      → Noted n f after k (w - 1) (written out k q w)
-  noted_turn w p q out lw uw ep eq uq s =
-      let lq : q < 128 = omega arith in
-      record {
-        long = long out k q w lq ∙ s.long;
-        within = λ v l u. by_eq v q
-            (λ e. rw e (write_here out k q w lq (omega (arith, s.long)) ∙ lowest_yes n w (is_next f (after q) q) lw uw (noted_here n f after w p q ep eq (rw e at l))))
-            (λ d. write_row out k q w lq k v d ∙ s.within v l u ∙ lowest_no n w (is_next f (after v) v) lw (noted_not n f after w p q ep eq v u d));
-        past = λ v l. write_row out k q w lq k v (λ e. omega arith) ∙ s.past v l;
-      }
-
-  pub noted_done : (w : ℕ) (start out : List ℕ) → w ≤ 0 → Clear k start → Kept k start out → Noted n f after k w out
-      → written out k 0 0 ≡ column k n start (λ v. next n f (after v) v)
-  unfolding next
-  noted_done w start out none c o s =
-      let z : w ≡ 0 = omega arith in
-      let l0 : 0 < 128 = omega arith in
-      column_is k n start (written out k 0 0) (λ v. first n (is_next f (after v) v)) lk (omega arith) c.long (long out k 0 0 l0 ∙ s.long)
-      (λ v l u. write_row out k 0 0 l0 k v (λ e. omega arith) ∙ s.within v l u ∙ first_same n _ _ (λ x a b. rw (z, is_under {m = 0} {n = x} (omega arith))))
-      (λ v l. write_row out k 0 0 l0 k v (λ e. omega arith) ∙ s.past v l ∙ sym (c.none v))
-      (write_here out k 0 0 l0 (omega (arith, s.long)) ∙ sym (c.none 0))
-      (record { others = λ j v d. write_column out k 0 0 l0 j v d ∙ o.others j v d })
-
--- a turn of the pass, where column j says what the next child is above
-module _ (n : ℕ) (f : ℕ → ℕ) (j k : ℕ) (start out : List ℕ) (few : n ≤ 127) (lk : k < 4) (d : j ≢ k) where
-  pub next_turn : (w p q : ℕ) (r : List ℕ) → 1 ≤ w → w ≤ n → p ≡ f w → q ≡ inside_after n (entry out j) p w → q ≤ n → r ≡ written out k q w
-      → Noted n f (entry start j) k w out → Kept k start out → Noted n f (entry start j) k (w - 1) r × Kept k start r
-  next_turn w p q r lw uw ep eq uq e s o = rw e (
-    noted_turn n f (entry start j) k few lk w p q out lw uw ep (rw (kept_column j k start out d o) at eq) uq s,
-    kept_then k start out (written out k q w) o (kept_write k q w out (omega arith)),
-  )
 
 -- what the next one is: in the range, above a, with the entry x; none between has that entry, and none above a has it where there is no next one
 module _ (n : ℕ) (l : ℕ → ℕ) (a x : ℕ) where

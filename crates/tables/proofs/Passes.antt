@@ -1,20 +1,20 @@
 -- The turns of the two passes that fill a column: from the highest child down an entry is the lowest child among those passed, and from 1 up an entry is
 -- the count among those passed. A parent that is none of 1 to n is noted at 0, which the end clears.
 -- Assumes nothing.
-use Rattle.std.proofs.Common.{◌≡◌, ◌≢◌, ℕ, ◌+◌, ◌-◌, ◌≤◌, ◌<◌, List, length, sym, ap, ◌∙◌, arith}
+use Rattle.std.proofs.Common.{◌≡◌, ◌≢◌, ℕ, zero, suc, ◌+◌, ◌-◌, ◌≤◌, ◌<◌, List, length, take, drop, refl, sym, ap, ◌∙◌, arith}
 use Rattle.std.proofs.Math.ListN.{set, length-set}
-use Rattle.std.proofs.Math.Seq.{get_or-set_same, get_or-set_other, ext_get_or}
-use Rattle.finite.specs.Tests.{under}
+use Rattle.std.proofs.Math.Seq.{get_or-set_same, get_or-set_other, ext_get_or, get_or-take, get_or-drop}
+use Rattle.std.proofs.lemmas.List.{length-take-le, length-drop}
+use Rattle.finite.specs.Tests.{same, under}
 use Rattle.finite.specs.Range.{first, children}
 use Rattle.finite.specs.Tables.{at, zeros, filled}
 use Rattle.finite.proofs.Cases.{by_eq, by_less}
-use Rattle.finite.proofs.Count.{count_start}
+use Rattle.finite.proofs.Count.{count_start, count_turn}
 use Rattle.finite.proofs.Every.{first_same, first_nothing}
 use Rattle.finite.proofs.Tables.{length_filled, filled_in, filled_out, filled_zero, zeros_long, zeros_at}
-use Rattle.finite.proofs.Tests.{and_no_l, is_under, not_under}
+use Rattle.finite.proofs.Tests.{and_no_l, is_same, not_same, is_under, not_under}
 use Rattle.tables.specs.Children.{is_next, next, inside, inside_after, one_more}
-use Rattle.tables.proofs.Nexts.{inside_in, inside_out, lowest, lowest_yes, lowest_no, noted_here, noted_not}
-use Rattle.tables.proofs.Counts.{inside_high, hit, miss}
+use Rattle.tables.proofs.Nexts.{inside_in, inside_out, inside_high, lowest, lowest_yes, lowest_no, noted_here, noted_not}
 
 -- a column that holds f at 1..n, and 0 elsewhere once its entry 0 is cleared
 filled_is : (n : ℕ) (l : List ℕ) (f : ℕ → ℕ) → n ≤ 127 → length l ≡ 128 → ((v : ℕ) → 1 ≤ v → v ≤ n → at l v ≡ f v) → ((v : ℕ) → n < v → at l v ≡ 0)
@@ -54,6 +54,16 @@ module _ (n : ℕ) (f after : ℕ → ℕ) (few : n ≤ 127) where
       let z : w ≡ 0 = omega arith in
       filled_is n out (λ v. first n (is_next f (after v) v)) few s.long
       (λ v l u. s.within v l u ∙ first_same n _ _ (λ x a b. rw (z, is_under {m = 0} {n = x} (omega arith)))) s.past
+
+-- a number counts the next child if it is its parent
+module _ (f : ℕ → ℕ) where
+  hit : (w v : ℕ) → f (w + 1) ≡ v → children w f v + 1 ≡ children (w + 1) f v
+  unfolding children
+  hit w v e = count_turn (λ x. same (f x) v) w _ 1 refl (rw (is_same e))
+
+  miss : (w v : ℕ) → f (w + 1) ≢ v → children w f v ≡ children (w + 1) f v
+  unfolding children
+  miss w v d = omega (arith, count_turn (λ x. same (f x) v) w _ 0 refl (rw (not_same d)))
 
 -- a column once the children 1..w are counted; entry 0 may be any number up to w
 pub record Counted (n : ℕ) (f : ℕ → ℕ) (w : ℕ) (out : List ℕ) : Type 0 where
@@ -108,3 +118,28 @@ module _ (n : ℕ) (f : ℕ → ℕ) (few : n ≤ 127) where
   -- where n is 0 no child is passed
   pub counted_done : (w : ℕ) (out : List ℕ) → (1 ≤ n → w ≡ n) → Counted n f w out → set out 0 0 ≡ filled n zeros (children n f)
   counted_done w out e s = filled_is n out (children n f) few s.long (λ v l u. rw (e (omega arith)) at s.within v l u) s.past
+
+-- what comes of the calls at 1 to n is f
+abbrev pub Gives : (ℕ → ℕ → Type 0) → ℕ → (ℕ → ℕ) → Type 0
+Gives gives n f = (v r : ℕ) → 1 ≤ v → v ≤ n → gives v r → r ≡ f v
+
+-- the turns of a loop that fills a column from such calls: at v, after which the entries below u are filled
+pub filled_start : (d : List ℕ) (f : ℕ → ℕ) → d ≡ filled 0 d f
+unfolding filled
+filled_start d f = refl
+
+pub filled_turn : (v u x : ℕ) (d out r : List ℕ) (f : ℕ → ℕ) → 1 ≤ v → u ≡ v → x ≡ f v → r ≡ set out v x → out ≡ filled (v - 1) d f → r ≡ filled u d f
+unfolding filled
+filled_turn zero u x d out r f l e ex er s = absurd (omega arith)
+filled_turn (suc k) u x d out r f l e ex er s = let q : suc k - 1 ≡ k = omega arith in rw (e, er, ex, s, q)
+
+pub filled_end : (n v : ℕ) (d out : List ℕ) (f : ℕ → ℕ) → n ≤ v → v ≤ n → out ≡ filled v d f → out ≡ filled n d f
+filled_end n v d out f a b s = let e : v ≡ n = omega arith in rw e at s
+
+-- the entries of 1 to n, as a loop over these entries reads them
+module _ (n : ℕ) (l : List ℕ) where
+  pub entries_many : n ≤ 127 → length l ≡ 128 → length (take (n + 1 - 1) (drop 1 l)) ≡ n
+  entries_many few long = length-take-le (n + 1 - 1) (drop 1 l) (omega (arith, length-drop 1 l)) ∙ omega arith
+
+  pub entry_is : (i : ℕ) → i < n → at (take (n + 1 - 1) (drop 1 l)) i ≡ at l (i + 1)
+  entry_is i h = get_or-take (n + 1 - 1) (drop 1 l) i 0 (omega arith) ∙ get_or-drop 1 l i 0 ∙ ap (at l) (omega arith)

@@ -4,7 +4,6 @@ use Rattle.std.specs.Prelude.{Bool, cond, ◌&&◌, List, ℕ, ◌+◌, set}
 use Rattle.finite.specs.Tests.{same, under}
 use Rattle.finite.specs.Range.{first}
 use Rattle.finite.specs.Tables.{at}
-use Rattle.tables.specs.Columns.{entry, written}
 
 -- v is above a and its parent is x
 unfoldable pub is_next : (ℕ → ℕ) → ℕ → ℕ → ℕ → Bool
@@ -20,10 +19,6 @@ inside n p = cond (under n p) 0 p
 
 unfoldable pub inside_after : ℕ → (after : ℕ → ℕ) → ℕ → ℕ → ℕ
 inside_after n after p w = cond (under (after (inside n p)) w) (inside n p) 0
-
--- the table with one child more counted at the parent p, in column k
-unfoldable pub raised : ℕ → List ℕ → (k p : ℕ) → List ℕ
-raised n t k p = written t k (inside n p) (entry t k (inside n p) + 1)
 
 -- the column l with one child more counted at the parent p
 unfoldable pub one_more : ℕ → List ℕ → (p : ℕ) → List ℕ

@@ -1,10 +1,7 @@
 -- An admitted sheet has what the telling of a history takes: a node's level is one more than the number of nodes of higher rank, and each gene from 2 on
 -- is a child of its parent. So the lines of the chosen history are those to write.
 -- Assumes nothing.
-use mathlib.Core.Path.{◌≡◌, refl, sym, ◌∙◌, subst}
-use mathlib.Core.Logic.{◌≢◌, inl, inr, ⊎_elim}
-use Prim.Native.Nat.{ℕ, suc, ◌≤◌, ◌<◌}
-use native.Mathlib.Omega.{arith}
+use Rattle.std.proofs.Common.{◌≡◌, refl, sym, ◌∙◌, subst, ◌≢◌, inl, inr, ⊎_elim, ℕ, suc, ◌≤◌, ◌<◌, arith}
 use Rattle.finite.specs.Tests.{under, tally}
 use Rattle.finite.specs.Range.{count}
 use Rattle.finite.proofs.Tests.{is_under, not_under, under_is, tally_le, tally_no}

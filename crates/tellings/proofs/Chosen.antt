@@ -1,13 +1,8 @@
 -- The chosen steps are those of a cheapest history, and no cheapest history comes before it. At a gene and a node a cheapest history begins with a step
 -- that attains the least cost and goes on with cheapest histories; the chosen step is the same or sooner.
 -- Assumes nothing.
-use mathlib.Core.Path.{◌≡◌, refl, sym, ap, ◌∙◌}
-use mathlib.Core.Logic.{inl, inr}
-use mathlib.Core.Bool.{true}
+use Rattle.std.proofs.Common.{◌≡◌, refl, sym, ap, ◌∙◌, inl, inr, true, List, [], ◌++◌, ℕ, zero, suc, ◌+◌, ◌-◌, ◌≤◌, ◌<◌, arith}
 use mathlib.Core.Option.{none, some}
-use mathlib.Core.List.{List, [], ◌++◌}
-use Prim.Native.Nat.{ℕ, zero, suc, ◌+◌, ◌-◌, ◌≤◌, ◌<◌}
-use native.Mathlib.Omega.{arith}
 use Rattle.finite.proofs.Tests.{is_same, not_same, same_is}
 use Rattle.histories.specs.Histories.{Gene, tip, pair, Family, Cost, Least, attained, nothing, ◌⊕◌, then as added, least, History, cost}
 use Rattle.histories.specs.inner.Grades.{Graded}

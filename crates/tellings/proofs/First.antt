@@ -2,13 +2,8 @@
 -- attained, and from there no cheapest history comes before it. Two such histories have the same start and the same lines, for neither comes before the
 -- other.
 -- Assumes nothing.
-use mathlib.Core.Path.{◌≡◌, refl, sym, ap, ◌∙◌, subst}
-use mathlib.Core.Logic.{◌≢◌}
-use mathlib.Core.Bool.{Bool, true}
+use Rattle.std.proofs.Common.{◌≡◌, refl, sym, ap, ◌∙◌, subst, ◌≢◌, Bool, true, List, ℕ, suc, ◌+◌, ◌-◌, ◌≤◌, ◌<◌, arith}
 use mathlib.Core.Option.{some}
-use mathlib.Core.List.{List}
-use Prim.Native.Nat.{ℕ, suc, ◌+◌, ◌-◌, ◌≤◌, ◌<◌}
-use native.Mathlib.Omega.{arith}
 use Rattle.finite.proofs.Cases.{by_less, by_order, clash}
 use Rattle.finite.proofs.Every.{first_is, first_none, first_low}
 use Rattle.histories.specs.Histories.{Family, least, overall, History, cost}

@@ -1,9 +1,7 @@
 -- The history chosen for sheet K of 01, and for case 4 at its own costs and at no costs, computed by the checker:
 -- the lines are those that an enumeration of all histories gives.
 -- Assumes nothing.
-use mathlib.Core.Path.{◌≡◌, refl}
-use mathlib.Core.List.{List, [], ◌∷◌}
-use Prim.Native.Nat.{ℕ}
+use Rattle.std.proofs.Common.{◌≡◌, refl, List, [], ◌∷◌, ℕ}
 use Rattle.finite.specs.Tests.{same, under}
 use Rattle.finite.specs.Tables.{at, within}
 use Rattle.topology.specs.Lines.{NodeLines, GeneLines}

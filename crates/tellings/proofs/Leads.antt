@@ -1,12 +1,7 @@
 -- Where the steps that are open at a node lead: to the node itself or along an arc out. So a property of the ends of arcs out holds wherever a gene or its
 -- children go on, and arcs lead to nodes of a lower level.
 -- Assumes nothing.
-use mathlib.Core.Path.{◌≡◌, refl}
-use mathlib.Core.Logic.{◌⊎◌, inl, inr}
-use mathlib.Core.Bool.{Bool, true, false, cond}
-use mathlib.Core.List.{[], ◌∷◌}
-use Prim.Native.Nat.{ℕ, ◌≤◌, ◌<◌}
-use native.Mathlib.Omega.{arith}
+use Rattle.std.proofs.Common.{◌≡◌, refl, ◌⊎◌, inl, inr, Bool, true, false, cond, [], ◌∷◌, ℕ, ◌≤◌, ◌<◌, arith}
 use Rattle.finite.specs.Tests.{same}
 use Rattle.histories.specs.Histories.{Out, leaf, one, two, mixed, Gene, tip, pair, Family}
 use Rattle.histories.specs.inner.Grades.{Leads}

@@ -1,13 +1,8 @@
 -- The lines of a listing cost what the genes' steps cost, summed gene by gene, and are as many. So the lines of the chosen history are those to write,
 -- and no other lines are.
 -- Assumes nothing.
-use mathlib.Core.Path.{◌≡◌, refl, sym, ap, ◌∙◌}
+use Rattle.std.proofs.Common.{◌≡◌, refl, sym, ap, ◌∙◌, List, [], ◌∷◌, ◌++◌, ℕ, zero, suc, ◌+◌, ◌-◌, ◌≤◌, add_assoc, arith, get_or, length, length-append}
 use mathlib.Core.Option.{some}
-use mathlib.Core.List.{List, [], ◌∷◌, ◌++◌}
-use Prim.Native.Nat.{ℕ, zero, suc, ◌+◌, ◌-◌, ◌≤◌}
-use native.Mathlib.Nat.{add_assoc}
-use native.Mathlib.Omega.{arith}
-use lib.ListN.{get_or, length, length-append}
 use Rattle.finite.specs.Range.{sum}
 use Rattle.histories.specs.Histories.{Family, overall}
 use Rattle.histories.specs.inner.Grades.{Graded}

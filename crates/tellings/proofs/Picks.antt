@@ -1,13 +1,8 @@
 -- Of any two steps one is the other or comes before it, so the step picked from a list is the first of those that pass. Where two pairs of tellings are
 -- put together, the first difference lies in one of the pairs, so the order holds of the whole.
 -- Assumes nothing.
-use mathlib.Core.Path.{◌≡◌, refl, sym, ◌∙◌}
-use mathlib.Core.Logic.{◌⊎◌, inl, inr}
-use mathlib.Core.Bool.{Bool, true, false, cond}
+use Rattle.std.proofs.Common.{◌≡◌, refl, sym, ◌∙◌, ◌⊎◌, inl, inr, Bool, true, false, cond, List, [], ◌∷◌, ◌++◌, ℕ, arith}
 use mathlib.Core.Option.{Option, none, some}
-use mathlib.Core.List.{List, [], ◌∷◌, ◌++◌}
-use Prim.Native.Nat.{ℕ}
-use native.Mathlib.Omega.{arith}
 use Rattle.finite.specs.Tests.{same, under}
 use Rattle.finite.proofs.Cases.{by_bool, by_order}
 use Rattle.finite.proofs.Tests.{is_same, not_same, is_under, not_under}

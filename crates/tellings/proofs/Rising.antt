@@ -1,15 +1,8 @@
 -- A parent has a lower number than its children, so the table of starts, filled genes rising, has each gene's start when its turn comes, and keeps it.
 -- The walks from these starts are the lines of the chosen history.
 -- Assumes nothing.
-use mathlib.Core.Path.{◌≡◌, refl, sym, ap, ◌∙◌}
-use mathlib.Core.Logic.{◌≢◌}
-use mathlib.Core.Bool.{true}
+use Rattle.std.proofs.Common.{◌≡◌, refl, sym, ap, ◌∙◌, ◌≢◌, true, List, ℕ, zero, suc, ◌+◌, ◌-◌, ◌≤◌, ◌<◌, arith, length, set, length-set, get_or-set_same, get_or-set_other}
 use mathlib.Core.Option.{some}
-use mathlib.Core.List.{List}
-use Prim.Native.Nat.{ℕ, zero, suc, ◌+◌, ◌-◌, ◌≤◌, ◌<◌}
-use native.Mathlib.Omega.{arith}
-use lib.ListN.{length, set, length-set}
-use lib.Seq.{get_or-set_same, get_or-set_other}
 use Rattle.finite.specs.Tables.{at, zeros}
 use Rattle.finite.proofs.Cases.{by_eq, measure}
 use Rattle.finite.proofs.Tables.{zeros_long}

@@ -1,14 +1,7 @@
 -- Each step is one gene's, so the costs of all genes' steps add up to the history's cost. A gene's steps lead to ever lower levels, and the genes below
 -- two children are apart, so a gene has at most one step for each node.
 -- Assumes nothing.
-use mathlib.Core.Path.{◌≡◌, refl, sym, ap, ◌∙◌}
-use mathlib.Core.Logic.{◌≢◌}
-use mathlib.Core.Bool.{Bool, true, false}
-use mathlib.Core.List.{List, [], ◌∷◌, ◌++◌}
-use Prim.Native.Nat.{ℕ, zero, suc, ◌+◌, ◌≤◌, ◌<◌}
-use native.Mathlib.Nat.{add_assoc, le_trans, mul-le-mul}
-use native.Mathlib.Omega.{arith}
-use lib.ListN.{length, length-append}
+use Rattle.std.proofs.Common.{◌≡◌, refl, sym, ap, ◌∙◌, ◌≢◌, Bool, true, false, List, [], ◌∷◌, ◌++◌, ℕ, zero, suc, ◌+◌, ◌≤◌, ◌<◌, add_assoc, le_trans, mul-le-mul, arith, length, length-append}
 use Rattle.finite.specs.Range.{sum}
 use Rattle.finite.proofs.Cases.{by_eq, by_bool, clash}
 use Rattle.finite.proofs.Tests.{is_same, not_same}

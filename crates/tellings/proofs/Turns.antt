@@ -1,14 +1,8 @@
 -- What the turns of the writing loops need: the choice by the table's words is the choice by least costs; a gene that starts at a node from which it has
 -- a history leaves its children at such nodes; so each gene's start in the table is one when its turn comes.
 -- Assumes nothing.
-use mathlib.Core.Path.{◌≡◌, refl, sym, ap, ◌∙◌}
-use mathlib.Core.Logic.{◌⊎◌, inl, inr}
-use mathlib.Core.Bool.{Bool}
+use Rattle.std.proofs.Common.{◌≡◌, refl, sym, ap, ◌∙◌, ◌⊎◌, inl, inr, Bool, List, [], ◌∷◌, ◌++◌, append_assoc, ℕ, zero, suc, ◌+◌, ◌≤◌, ◌<◌, arith, length, get_or}
 use mathlib.Core.Option.{some}
-use mathlib.Core.List.{List, [], ◌∷◌, ◌++◌, append_assoc}
-use Prim.Native.Nat.{ℕ, zero, suc, ◌+◌, ◌≤◌, ◌<◌}
-use native.Mathlib.Omega.{arith}
-use lib.ListN.{length, get_or}
 use Rattle.finite.specs.Tables.{at}
 use Rattle.finite.proofs.Cases.{by_eq}
 use Rattle.histories.specs.Histories.{Family, Gene, tip, pair, Cost, ◌⊕◌, then as added, least, overall}

@@ -1,28 +1,22 @@
 -- Reading a line finds one just where the bytes are the fields of five numbers and a line feed: by induction on the fields that are left
 -- (`rest_is`), each of which is a number's columns or is malformed. Then the turns of the loops that read and write a line.
 -- Assumes nothing.
-use Prim.Native.Nat.{ℕ, zero, suc, ◌+◌, ◌-◌, ◌*◌, ◌≤◌, ◌<◌}
-use mathlib.Core.Path.{◌≡◌, refl, sym, ap, ◌∙◌, subst}
-use mathlib.Core.Bool.{true, false}
-use mathlib.Core.List.{List, [], ◌∷◌, ◌++◌, append_assoc, append-nil}
-use lib.ListN.{length, get_or, take, drop, set, replicate, length-append, get_or-eq_default}
-use lib.Seq.{take-nil, take-take, drop-drop, get_or-take, get_or-drop, take-add, take_at, drop_at, drop-cons, set_at, append_snoc}
-use lib.Dec.{eqb, lit<}
-use native.Mathlib.Nat.{add-zero, zero-add, suc-add}
-use native.Mathlib.Numerals.{add-one}
-use native.Mathlib.Omega.{arith}
-use borrow.Author.Tests.{eq-eqb, ne_eqb, eqb-true, eqb-false}
+use Rattle.std.proofs.Common.{ℕ, zero, suc, ◌+◌, ◌-◌, ◌*◌, ◌≤◌, ◌<◌, ◌≡◌, refl, sym, ap, ◌∙◌, subst, true, false, List, [], ◌∷◌, ◌++◌, append_assoc, append-nil, length, get_or, take, drop, set, length-append, length-set, take-take, drop-drop, get_or-take, get_or-drop, take-add, take_at, drop_at, drop-cons, eqb, lit<, add-zero, zero-add, suc-add, add-one, arith, eq-eqb, ne_eqb, eqb-true}
+use lib.ListN.{get_or-eq_default}
+use Rattle.std.proofs.lemmas.List.{take_all}
+use lib.Seq.{take-nil, set_at, append_snoc}
+use borrow.Author.Tests.{eqb-false}
 use borrow.Rule.Slice.PartMut.{put_mid}
 use Rattle.finite.proofs.Tables.{replicate_at}
 use Rattle.finite.proofs.Cases.{by_bool, by_eq}
 use Rattle.columns.specs.Fields.{columns, six, spells, field_at, FieldIs}
 use Rattle.columns.specs.Writing.{written, put}
-use Rattle.text_lines.specs.Lines.{field_count, line_length, fields_of, line_of, Small, Reading, malformed, end_at, and_then, rest_at, line_at, LineIs, LineRead}
+use Rattle.text_lines.specs.Lines.{field_count, line_length, fields_of, line_of, Small, Reading, malformed, end_at, and_then, rest_at, line_at, LineIs, told_at, SaysLine, LineRead}
 use Rattle.columns.specs.declared.Cursor.{Cursor}
 use Rattle.std.specs.Prelude.{Option, Some, None}
 use Rattle.columns.proofs.Columns.{length_columns}
 use Rattle.columns.proofs.Fields.{field_is, columns_spelled, spelled_columns, one_number}
-use Rattle.columns.proofs.Writing.{lent, put_nil, put_set, put_over, put_written}
+use Rattle.columns.proofs.Writing.{lent, put_written}
 
 -- the bytes of fields and of a line
 length_fields : (k : ℕ) (ns : List ℕ) → length (fields_of k ns) ≡ 6 * k
@@ -186,55 +180,47 @@ no_end : (s : List ℕ) (at : ℕ) (ns : List ℕ) → (end_at s at []).end ≡ 
 unfolding end_at
 no_end s at ns e = by_bool (eqb (get_or s at 0) 10) (λ t. absurd (ended (rw t at e))) (λ t. rw t)
 
--- the loop that reads, at the cursor q: the first i numbers of the line stand at their place of what is lent, and the rest of the line follows
-pub record Read (s : List ℕ) (start : ℕ) (d : List ℕ) (place q i : ℕ) (numbers : List ℕ) : Type 0 where
-  pub first : List ℕ
-  pub many : length first ≡ i
-  pub stand : numbers ≡ put d place first
-  pub rest_of : line_at s start ≡ rest_at (field_count - i) s q first
+-- the loop that reads, at the cursor q: the first i numbers of the line stand in front, the rest of the line follows
+pub record Read (s : List ℕ) (start q i : ℕ) (line : List ℕ) : Type 0 where
+  pub long : length line ≡ field_count
+  pub rest_of : line_at s start ≡ rest_at (field_count - i) s q (take i line)
 
-pub read_start : (s : List ℕ) (start : ℕ) (d : List ℕ) (place : ℕ) → Read s start d place start 0 d
+pub read_start : (s : List ℕ) (start : ℕ) (line : List ℕ) → length line ≡ field_count → Read s start start 0 line
 unfolding line_at
-read_start s start d place = record { first = []; many = refl; stand = put_nil d place; rest_of = refl }
+read_start s start line l = record { long = l; rest_of = refl }
 
--- what is told of a line: how it ends, and its numbers at the place
-abbrev pub Told : List ℕ → ℕ → List ℕ → ℕ → Option Cursor → List ℕ → Type 0
-Told s start d place r e = (r ≡ (line_at s start).end) × (e ≡ put d place (line_at s start).line)
+-- the first i numbers and the next
+take_more : (l : List ℕ) (i n : ℕ) → i < length l → take (i + 1) (set l i n) ≡ take i l ++ (n ∷ [])
+take_more [] i n h = absurd (omega arith)
+take_more (x ∷ l) zero n h = refl
+take_more (x ∷ l) (suc i) n h = let e : suc i + 1 ≡ suc (i + 1) = omega arith in rw e (ap (λ (r : List ℕ). x ∷ r) (take_more l i n (omega arith)))
 
-module _ {s d numbers : List ℕ} {start place q i : ℕ} (room : place + field_count ≤ length d) (x : Read s start d place q i numbers) where
-  pub read_turn : (n : ℕ) (r : Option (ℕ × Cursor)) (c : Cursor) → i < field_count → r ≡ field_at s q → r ≡ Some (n, c) → Read s start d place c.at (i + 1) (set numbers (place + i) n)
+module _ {s line : List ℕ} {start q i : ℕ} (x : Read s start q i line) where
+  pub read_turn : (n : ℕ) (r : Option (ℕ × Cursor)) (c : Cursor) → i < field_count → r ≡ field_at s q → r ≡ Some (n, c) → Read s start c.at (i + 1) (set line i n)
   unfolding rest_at
   read_turn n r c h e ec =
       let k : field_count - i ≡ suc (field_count - (i + 1)) = omega arith in
       record {
-        first = x.first ++ (n ∷ []);
-        many = length-append x.first (n ∷ []) ∙ omega (arith, x.many);
-        stand = rw x.stand (put_set d x.first place i n x.many (omega arith));
-        rest_of = x.rest_of ∙ rw (k, ← e, ec);
+        long = length-set line i n ∙ x.long;
+        rest_of = x.rest_of ∙ rw (k, ← e, ec, take_more line i n (omega (arith, x.long)));
       }
 
-  -- a line that is not one: what was put is put over
-  no_line_told : (r : Option Cursor) (e : List ℕ) → i ≤ field_count → line_at s start ≡ malformed → r ≡ malformed.end → e ≡ put numbers place malformed.line → Told s start d place r e
-  unfolding malformed
-  no_line_told r e h em er ee = rw em (er, ee ∙ rw x.stand (put_over d x.first (replicate field_count 0) place (omega arith) (omega (arith, x.many))))
-
-  pub read_stop : (t : Option (ℕ × Cursor)) (r : Option Cursor) (e : List ℕ) → i < field_count → t ≡ field_at s q → t ≡ None → r ≡ malformed.end → e ≡ put numbers place malformed.line
-      → Told s start d place r e
+  -- a field that is malformed
+  pub read_stop : (t : Option (ℕ × Cursor)) → i < field_count → t ≡ field_at s q → t ≡ None → line_at s start ≡ malformed
   unfolding rest_at
-  read_stop t r e h et en =
+  read_stop t h et en =
       let k : field_count - i ≡ suc (field_count - (i + 1)) = omega arith in
-      no_line_told r e (omega arith) (x.rest_of ∙ rw (k, ← et, en))
+      x.rest_of ∙ rw (k, ← et, en)
 
-  read_all : i ≤ field_count → field_count ≤ i → line_at s start ≡ end_at s q x.first
+  read_all : i ≤ field_count → field_count ≤ i → line_at s start ≡ end_at s q line
   unfolding rest_at
-  read_all a b = let k : i ≡ field_count = omega arith in x.rest_of ∙ rw k
+  read_all a b = let k : i ≡ field_count = omega arith in let w : take field_count line ≡ line = take_all field_count line (omega (arith, x.long)) in x.rest_of ∙ rw (k, w)
 
-  pub read_unended : (t r : Option Cursor) (e : List ℕ) → i ≤ field_count → field_count ≤ i → t ≡ (end_at s q []).end → t ≡ None → r ≡ malformed.end
-      → e ≡ put numbers place malformed.line → Told s start d place r e
-  read_unended t r e a b et em = no_line_told r e a (read_all a b ∙ no_end s q x.first (sym et ∙ em))
+  pub read_unended : (t : Option Cursor) → i ≤ field_count → field_count ≤ i → t ≡ (end_at s q []).end → t ≡ None → line_at s start ≡ malformed
+  read_unended t a b et em = read_all a b ∙ no_end s q line (sym et ∙ em)
 
-  pub read_done : (t : Option Cursor) (c : Cursor) → i ≤ field_count → field_count ≤ i → t ≡ (end_at s q []).end → t ≡ Some c → Told s start d place (Some c) numbers
-  read_done t c a b et ec = rw (read_all a b, end_after s q x.first c (sym et ∙ ec)) (refl, x.stand)
+  pub read_done : (t : Option Cursor) (c : Cursor) → i ≤ field_count → field_count ≤ i → t ≡ (end_at s q []).end → t ≡ Some c → line_at s start ≡ record { line = line; end = Some c }
+  read_done t c a b et ec = read_all a b ∙ end_after s q line c (sym et ∙ ec)
 
 -- the turn of the loop that writes: the part from the next field on is lent, and comes back with the field written
 pub write_turn : (d out y line : List ℕ) (at i : ℕ) → at ≡ 6 * i → i < field_count → line_length ≤ length d → length out ≡ length d
@@ -292,5 +278,16 @@ small_read s at = go (line_at s at).end refl (line_is s at)
     go None e h = record { small = λ i. omega (arith, malformed_zero s at i e) }
 
 -- for the reader: what it returns, computed and by cases
-pub line_told : (s : List ℕ) (at place : ℕ) (d e : List ℕ) {r : Option Cursor} → (r ≡ (line_at s at).end) × (e ≡ put d place (line_at s at).line) → LineRead s at place d e r
-line_told s at place d e {r} p = record { end = p.0; numbers = p.1; says = subst (λ (x : Option Cursor). LineIs s at (line_at s at).line x) (sym p.0) (line_is s at) }
+line_says : (s : List ℕ) (at : ℕ) (ns : List ℕ) (d : Option Cursor) → LineIs s at ns d → SaysLine s at (told_at ns d)
+line_says s at ns (Some c) h = h
+line_says s at ns None h = h
+
+line_read : (s : List ℕ) (at : ℕ) → LineRead s at (told_at (line_at s at).line (line_at s at).end)
+line_read s at = record { is = refl; says = line_says s at (line_at s at).line (line_at s at).end (line_is s at) }
+
+pub line_told : (s : List ℕ) (at : ℕ) (line : List ℕ) (c : Cursor) → line_at s at ≡ record { line = line; end = Some c } → LineRead s at (Some (line, c))
+line_told s at line c e = subst (λ (r : Reading). LineRead s at (told_at r.line r.end)) e (line_read s at)
+
+pub no_line_told : (s : List ℕ) (at : ℕ) → line_at s at ≡ malformed → LineRead s at None
+unfolding malformed
+no_line_told s at e = subst (λ (r : Reading). LineRead s at (told_at r.line r.end)) e (line_read s at)

@@ -2,7 +2,6 @@
 -- Assumes nothing.
 use Rattle.std.specs.Prelude.{ℕ, zero, suc, ◌+◌, ◌*◌, ◌<◌, ◌≡◌, cond, List, [], ◌∷◌, ◌++◌, get_or, take, drop, replicate, eqb, Option, Some, None}
 use Rattle.columns.specs.Fields.{columns, field_at}
-use Rattle.columns.specs.Writing.{put}
 use Rattle.columns.specs.declared.Cursor.{Cursor}
 
 -- how many fields a line has: the one place of the specification that says so
@@ -57,8 +56,16 @@ abbrev pub LineIs : List ℕ → ℕ → List ℕ → Option Cursor → Type 0
 LineIs s at ns (Some c) = Small ns × (take line_length (drop at s) ≡ line_of ns) × (c.at ≡ at + line_length)
 LineIs s at ns None = (ms : List ℕ) → Small ms → take line_length (drop at s) ≡ line_of ms → ⊥
 
--- the line at a cursor is read: its end, and its numbers over those from the place on, which were d and are e
-pub record LineRead (s : List ℕ) (at place : ℕ) (d e : List ℕ) (r : Option Cursor) : Type 0 where
-  pub end : r ≡ (line_at s at).end
-  pub numbers : e ≡ put d place (line_at s at).line
-  pub says : LineIs s at (line_at s at).line r
+-- what is told of it: its numbers and where it ends, or that it is none
+abbrev pub told_at : List ℕ → Option Cursor → Option (List ℕ × Cursor)
+told_at ns (Some c) = Some (ns, c)
+told_at ns None = None
+
+abbrev pub SaysLine : List ℕ → ℕ → Option (List ℕ × Cursor) → Type 0
+SaysLine s at (Some (ns, c)) = LineIs s at ns (Some c)
+SaysLine s at None = LineIs s at [] None
+
+-- the line at a place is read
+pub record LineRead (s : List ℕ) (at : ℕ) (r : Option (List ℕ × Cursor)) : Type 0 where
+  pub is : r ≡ told_at (line_at s at).line (line_at s at).end
+  pub says : SaysLine s at r

@@ -3,7 +3,7 @@
 
 ghost use Rattle.std.specs.Prelude.{◌≡◌, [], ◌+◌, ◌≤◌, length};
 ghost use Rattle.columns.specs.Writing.{written, put};
-ghost use Rattle.text_lines.specs.Lines.{field_count, line_of, line_length, end_at, malformed, Small, LineRead};
+ghost use Rattle.text_lines.specs.Lines.{line_of, line_length, end_at, Small, LineRead};
 
 use columns::Cursor;
 
@@ -12,16 +12,6 @@ pub const FIELDS: usize = 5;
 
 // The bytes of a line: its fields and a line feed.
 pub const LINE: usize = 6 * FIELDS + 1;
-
-// The answer where there is no line; its numbers are 0.
-#[tactic(auto, unfolding(crate::specs::Lines::malformed, columns::specs::Writing::put, columns::specs::Writing::written))]
-fn no_line(numbers: &mut [u32], place: usize) -> Option<Cursor>
-    requires { place + field_count ≤ length numbers.old }
-    ensures { (result ≡ malformed.end) × (numbers.new ≡ put numbers.old place malformed.line) }
-{
-    numbers[place..place + FIELDS].fill(0);
-    None
-}
 
 // How a line ends after its last field: behind the line feed, if there is one.
 #[tactic(auto, unfolding(crate::specs::Lines::end_at, crate::specs::Lines::malformed))]
@@ -34,23 +24,17 @@ fn line_end(s: &[u8], c: Cursor) -> Option<Cursor>
     }
 }
 
-// The line at a cursor, field by field from the left, its numbers put at a place of what is lent; and the cursor after it.
-pub fn read_line(s: &[u8], start: Cursor, numbers: &mut [u32], place: usize) -> Option<Cursor>
-    requires { place + field_count ≤ length numbers.old }
-    ensures { LineRead s.now start.at place numbers.old numbers.new result }
+// The numbers of the line at a cursor, read field by field from the left; and the cursor after it.
+pub fn read_line(s: &[u8], start: Cursor) -> Option<([u32; FIELDS], Cursor)>
+    ensures { LineRead s.now start.at result }
 {
+    let mut line = [0; FIELDS];
     let mut c = start;
-    for i in 0..FIELDS {
-        let Some((n, next)) = c.field(s) else {
-            return no_line(numbers, place);
-        };
-        numbers[place + i] = n;
-        c = next;
+    for number in &mut line {
+        (*number, c) = c.field(s)?;
     }
-    let Some(after) = line_end(s, c) else {
-        return no_line(numbers, place);
-    };
-    Some(after)
+    let end = line_end(s, c)?;
+    Some((line, end))
 }
 
 // Writes a line into the front of what is lent.
@@ -58,9 +42,9 @@ pub fn write_line(out: &mut [u8], line: &[u32; FIELDS])
     requires { (line_length ≤ length out.old) × Small line.now }
     ensures { out.new ≡ written out.old (line_of line.now) }
 {
-    for i in 0..FIELDS {
+    for (i, n) in line.iter().enumerate() {
         let at = 6 * i;
-        columns::write_field(&mut out[at..], line[i]);
+        columns::write_field(&mut out[at..], *n);
     }
     out[6 * FIELDS] = b'\n';
 }

@@ -1,11 +1,8 @@
 -- Parents under a switching, and what is above what. The rank falls along every arc upwards and is 0 for no node alone, so the laws of climbing hold for every
 -- switching (`falls`), and `above` is the reachability along on arcs (`above_is`, `is_above`).
 -- Assumes nothing.
-use mathlib.Core.Path.{◌≡◌, refl, sym, ◌∙◌}
-use mathlib.Core.Logic.{◌≢◌}
-use mathlib.Core.Bool.{true, false, ◌&&◌, and-true, and-false}
-use Prim.Native.Nat.{ℕ, ◌<◌}
-use native.Mathlib.Omega.{arith}
+use Rattle.std.proofs.Common.{◌≡◌, refl, sym, ◌∙◌, ◌≢◌, true, false, ◌&&◌, ℕ, ◌<◌, arith}
+use mathlib.Core.Bool.{and-true, and-false}
 use Rattle.finite.proofs.Cases.{by_bool, by_eq, by_order, clash}
 use Rattle.finite.proofs.Tests.{is_same, not_same}
 use Rattle.topology.specs.Climbing.{Falls}

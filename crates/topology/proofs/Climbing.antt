@@ -1,11 +1,8 @@
 -- The laws of climbing. A climb of bounded length does not depend on its bound once that covers the rank (`fuel`), so `seek`, `over`, `meet`
 -- and `along` each satisfy the equation of one step; the rest is induction along the ranks (`climb_ind`).
 -- Assumes nothing.
-use mathlib.Core.Path.{◌≡◌, refl, sym, ◌∙◌, ap}
-use mathlib.Core.Logic.{◌≢◌}
-use mathlib.Core.Bool.{Bool, true, false, cond, ◌||◌, ◌&&◌, or-true, and-false}
-use Prim.Native.Nat.{ℕ, zero, suc, ◌+◌, ◌≤◌, ◌<◌}
-use native.Mathlib.Omega.{arith}
+use Rattle.std.proofs.Common.{◌≡◌, refl, sym, ◌∙◌, ap, ◌≢◌, Bool, true, false, cond, ◌||◌, ◌&&◌, ℕ, zero, suc, ◌+◌, ◌≤◌, ◌<◌, arith}
+use mathlib.Core.Bool.{or-true, and-false}
 use Rattle.finite.specs.Tests.{same}
 use Rattle.finite.proofs.Cases.{by_bool, by_eq, clash, measure}
 use Rattle.finite.proofs.Tests.{is_same, not_same, cond_same}

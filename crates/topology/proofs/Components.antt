@@ -1,11 +1,7 @@
 -- Components by their tops, and locality: what is below a node depends on the switching at the reticulations of its own component alone
 -- (`above_local`), because a component is entered from above only through its top, and a top has one parent arc.
 -- Assumes nothing.
-use mathlib.Core.Path.{◌≡◌, refl, sym, ◌∙◌, ap}
-use mathlib.Core.Logic.{◌≢◌}
-use mathlib.Core.Bool.{true, false}
-use Prim.Native.Nat.{ℕ, ◌≤◌, ◌<◌}
-use native.Mathlib.Omega.{arith}
+use Rattle.std.proofs.Common.{◌≡◌, refl, sym, ◌∙◌, ap, ◌≢◌, true, false, ℕ, ◌≤◌, ◌<◌, arith}
 use Rattle.finite.proofs.Cases.{by_bool, by_eq, clash}
 use Rattle.finite.proofs.Tests.{is_same, same_is, not_same, beq_is, and_l, and_r}
 use Rattle.finite.proofs.Every.{every_at}

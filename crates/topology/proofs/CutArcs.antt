@@ -2,11 +2,8 @@
 -- never a cut arc; and a function that every allowed arc keeps is kept by every walk (`invariant`), so no walk without the arc into a top
 -- crosses from above it to below it.
 -- Assumes nothing.
-use mathlib.Core.Path.{◌≡◌, refl, sym, ◌∙◌, ap}
-use mathlib.Core.Logic.{◌≢◌, ◌↔◌}
-use mathlib.Core.Bool.{Bool, true, false, cond, Bool-discrete}
-use Prim.Native.Nat.{ℕ, ◌<◌}
-use native.Mathlib.Omega.{arith}
+use Rattle.std.proofs.Common.{◌≡◌, refl, sym, ◌∙◌, ap, ◌≢◌, ◌↔◌, Bool, true, false, cond, ℕ, ◌<◌, arith}
+use mathlib.Core.Bool.{Bool-discrete}
 use Rattle.finite.proofs.Cases.{by_bool, by_dec, by_eq, clash}
 use Rattle.finite.proofs.Tests.{is_same, not_same, is_beq}
 use Rattle.finite.proofs.Every.{is_every}

@@ -1,10 +1,6 @@
 -- The lowest common node: it reaches both, and every node that reaches both reaches it (`lca_spec` in proofs/Above says so as one equation).
 -- Assumes nothing.
-use mathlib.Core.Path.{◌≡◌, sym, ◌∙◌}
-use mathlib.Core.Logic.{◌≢◌}
-use mathlib.Core.Bool.{true, ◌&&◌}
-use Prim.Native.Nat.{ℕ}
-use native.Mathlib.Omega.{arith}
+use Rattle.std.proofs.Common.{◌≡◌, sym, ◌∙◌, ◌≢◌, true, ◌&&◌, ℕ, arith}
 use Rattle.finite.proofs.Cases.{clash}
 use Rattle.topology.specs.Networks.{Network, Node, Sound}
 use Rattle.topology.specs.Switchings.{Switching, parent, above, lca}

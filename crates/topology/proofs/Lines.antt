@@ -1,10 +1,6 @@
 -- The network of lines has their parents, and its nodes are the numbers of the lines. Each law is a part of the definition, said where `network` stays shut.
 -- Assumes nothing.
-use mathlib.Core.Path.{◌≡◌, refl}
-use mathlib.Core.Bool.{Bool, true}
-use mathlib.Core.Logic.{◌≢◌}
-use Prim.Native.Nat.{ℕ, ◌≤◌}
-use native.Mathlib.Omega.{arith}
+use Rattle.std.proofs.Common.{◌≡◌, refl, Bool, true, ◌≢◌, ℕ, ◌≤◌, arith}
 use Rattle.finite.specs.Range.{any}
 use Rattle.finite.proofs.Tests.{is_same, not_same}
 use Rattle.finite.proofs.Every.{some_at, is_some}

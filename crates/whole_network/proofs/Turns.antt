@@ -1,10 +1,10 @@
 -- The turns of filling the table: at the next node of the order the words that the clauses read are small, and the word of the clauses is the least cost.
 -- Assumes nothing.
-use Rattle.std.proofs.Common.{◌≡◌, ◌≢◌, ◌∙◌, refl, List, ℕ, ◌+◌, ◌-◌, ◌*◌, ◌≤◌, ◌<◌, length, drop, length-drop, arith}
+use Rattle.std.proofs.Common.{◌≡◌, ◌≢◌, ◌∙◌, refl, List, ℕ, ◌+◌, ◌-◌, ◌*◌, ◌≤◌, ◌<◌, length, drop, length-drop, arith, mul-le-mul}
 use Rattle.std.proofs.Math.ListN.{set}
-use native.Mathlib.Nat.{mul-le-mul}
 use Rattle.finite.proofs.Cases.{by_less}
-use Rattle.layout.specs.Lines.{gene_species, nodes_in}
+use Rattle.finite.specs.Tables.{at}
+use Rattle.layout.specs.Lines.{nodes_in}
 use Rattle.layout.specs.inner.Genes.{left, right, gene_tree}
 use Rattle.layout.proofs.Numbered.{gene_species_in}
 use Rattle.histories.specs.Histories.{Cost, ending, stepping, least, Out, tip, pair, Family}
@@ -16,10 +16,11 @@ use Rattle.histories.proofs.Cells.{cell_in, row_costs}
 use Rattle.histories.proofs.Accepted.{gene_tip, gene_pair}
 use Rattle.histories.proofs.Filling.{turn_low, turn_high, stepping_least, own_cells, child_cells, partly_more, kept_more, kept_none, partly_start, partly_end, rows_none}
 use Rattle.arcs.specs.inner.Arcs.{order, leaving_in}
-use Rattle.cell_costs.specs.inner.Costs.{Children, tip_cost, inner_cost}
+use Rattle.cell_costs.proofs.Sums.{leads_both}
+use Rattle.cell_costs.specs.inner.Costs.{tip_cost, inner_cost}
 use Rattle.whole_network.specs.declared.Row.{Row}
 use Rattle.whole_network.specs.declared.Source.{Source}
-use Rattle.whole_network.specs.inner.Stages.{family, Ready, RowsIn, PartlyIn, KeptIn, Next}
+use Rattle.whole_network.specs.inner.Stages.{header, family, Ready, RowsIn, PartlyIn, KeptIn, Next}
 
 -- a leaf gene's step and an inner gene's are those of the clauses
 tip_step : (d t l : ℕ) (W : ℕ → ℕ → Cost) (g k v : ℕ) (o : Out) → tip_cost t l k (W g) o ≡ stepping d t l W g (tip k) v o
@@ -36,7 +37,7 @@ module _ {f : Source} {s : List ℕ} {r : Row} {i : ℕ} (T : Next f s r i) wher
   F = family f
 
   abbrev n : ℕ
-  n = f.header.nodes
+  n = (header f).nodes
 
   abbrev g : ℕ
   g = r.gene
@@ -45,31 +46,31 @@ module _ {f : Source} {s : List ℕ} {r : Row} {i : ℕ} (T : Next f s r i) wher
   v = order f.arcs i
 
   abbrev out : Out
-  out = leaving_in f.lines.now f.arcs (order f.arcs i)
+  out = leaving_in f.lines.now.nodes f.arcs (order f.arcs i)
 
   pub node_low : 1 ≤ order f.arcs i
   unfolding family_of nodes_in gene_tree
   node_low = turn_low T.filling.ready.prepared T.filling.room T.row.low T.row.high T.part T.low T.high refl
 
-  node_high : order f.arcs i ≤ f.header.nodes
+  node_high : order f.arcs i ≤ (header f).nodes
   unfolding family_of nodes_in gene_tree
   node_high = turn_high T.filling.ready.prepared T.filling.room T.row.low T.row.high T.part T.low T.high refl
 
   pub node_few : order f.arcs i ≤ 127
-  node_few = omega (arith, node_high, T.filling.ready.limits.few_nodes)
+  node_few = omega (arith, node_high, f.lines.now.within.few_nodes)
 
   at_cell : r.start + (order f.arcs i - 1) ≡ cell n g v
   unfolding cell
   at_cell = omega (arith, T.row.starts)
 
   pub word_inside : r.start + (order f.arcs i - 1) < length s
-  word_inside = omega (arith, at_cell, T.filling.room, cell_in n f.header.genes g v T.row.low T.row.high node_low node_high)
+  word_inside = omega (arith, at_cell, T.filling.room, cell_in n (header f).genes g v T.row.low T.row.high node_low node_high)
 
   outs : F.out v ≡ out
   outs = T.filling.ready.outs v node_low node_high
 
   -- its own row may be read where the arcs out lead
-  pub own_ends : Leads (Cell (drop r.start s)) (leaving_in f.lines.now f.arcs (order f.arcs i))
+  pub own_ends : Leads (Cell (drop r.start s)) (leaving_in f.lines.now.nodes f.arcs (order f.arcs i))
   unfolding family_of nodes_in gene_tree
   own_ends = rw outs at (own_cells T.filling.ready.prepared T.filling.room T.row.low T.row.high T.part T.low T.high refl r.start T.row.starts)
 
@@ -82,22 +83,22 @@ module _ {f : Source} {s : List ℕ} {r : Row} {i : ℕ} (T : Next f s r i) wher
     kept_more T.filling.ready.prepared T.filling.room T.row.low T.row.high T.part T.low T.high refl s w (kept_none F s),
   )
 
-  step_least : stepping f.header.duplication f.header.transfer f.header.loss (row n s) g (F.gene g) v (F.out v) ≡ least F g v
+  step_least : stepping (header f).duplication (header f).transfer (header f).loss (row n s) g (F.gene g) v (F.out v) ≡ least F g v
   unfolding family_of nodes_in gene_tree
   step_least = stepping_least T.filling.ready.prepared T.filling.room T.row.low T.row.high T.part T.low T.high refl
 
   -- of a leaf gene
-  module _ (k : ℕ) (kind : (left f.genes.now r.gene ≡ 0) × (k ≡ gene_species f.lines.now f.header.nodes r.gene)) where
+  module _ (k : ℕ) (kind : (left f.genes.now r.gene ≡ 0) × (k ≡ at f.lines.now.genes.species r.gene)) where
     gene_is : F.gene g ≡ tip k
     unfolding gene_tree
-    gene_is = gene_tip _ _ _ _ g kind.0 ∙ rw (gene_species_in n f.header.genes f.lines.now g T.row.low T.row.high, kind.1)
+    gene_is = gene_tip _ _ _ _ g kind.0 ∙ rw (gene_species_in (header f).genes f.lines.now.genes g T.row.low T.row.high, kind.1)
 
-    pub tip_least : tip_cost f.header.transfer f.header.loss k (cost_at (drop r.start s)) (leaving_in f.lines.now f.arcs (order f.arcs i)) ≡ least (family f) r.gene (order f.arcs i)
-    tip_least = rw (row_costs n s g r.start T.row.starts, ← outs) (tip_step f.header.duplication f.header.transfer f.header.loss (row n s) g k v (F.out v) ∙ rw gene_is at step_least)
+    pub tip_least : tip_cost (header f).transfer (header f).loss k (cost_at (drop r.start s)) (leaving_in f.lines.now.nodes f.arcs (order f.arcs i)) ≡ least (family f) r.gene (order f.arcs i)
+    tip_least = rw (row_costs n s g r.start T.row.starts, ← outs) (tip_step (header f).duplication (header f).transfer (header f).loss (row n s) g k v (F.out v) ∙ rw gene_is at step_least)
 
   -- of an inner gene whose children's rows begin at a and b
   module _ (a b : ℕ)
-      (kind : (left f.genes.now r.gene ≢ 0) × (a ≡ (left f.genes.now r.gene - 1) * f.header.nodes) × (b ≡ (right f.genes.now r.gene - 1) * f.header.nodes)) where
+      (kind : (left f.genes.now r.gene ≢ 0) × (a ≡ (left f.genes.now r.gene - 1) * (header f).nodes) × (b ≡ (right f.genes.now r.gene - 1) * (header f).nodes)) where
     pair_is : F.gene g ≡ pair (left f.genes.now g) (right f.genes.now g)
     unfolding gene_tree
     pair_is = gene_pair _ _ _ _ g kind.0
@@ -113,8 +114,11 @@ module _ {f : Source} {s : List ℕ} {r : Row} {i : ℕ} (T : Next f s r i) wher
     right_row = child_cells T.filling.ready.prepared T.filling.room T.row.low T.row.high T.part T.low T.high refl (right f.genes.now g) b kind.2
         (T.filling.ready.prepared.graded.right_more g _ _ pair_is) (T.filling.ready.prepared.graded.right_in g _ _ pair_is)
 
-    pub child_rows : Children (drop a s) (drop b s) (order f.arcs i) (leaving_in f.lines.now f.arcs (order f.arcs i))
-    child_rows = record { left_here = left_row.0; right_here = right_row.0; left = rw outs at left_row.1; right = rw outs at right_row.1 }
+    abbrev cells : ℕ → Type 0
+    cells x = Cell (drop a s) x × Cell (drop b s) x
+
+    pub child_rows : cells (order f.arcs i) × Leads cells (leaving_in f.lines.now.nodes f.arcs (order f.arcs i))
+    child_rows = ((left_row.0, right_row.0), rw outs at (leads_both _ _ _ left_row.1 right_row.1))
 
     -- a row that begins past the words would hold no word
     begins : (k : ℕ) → Cell (drop k s) v → k ≤ length s
@@ -126,14 +130,14 @@ module _ {f : Source} {s : List ℕ} {r : Row} {i : ℕ} (T : Next f s r i) wher
     pub right_starts : b ≤ length s
     right_starts = begins b right_row.0
 
-    pub inner_least : inner_cost f.header.duplication f.header.transfer f.header.loss (cost_at (drop a s)) (cost_at (drop b s)) (cost_at (drop r.start s)) (order f.arcs i) (leaving_in f.lines.now f.arcs (order f.arcs i))
+    pub inner_least : inner_cost (header f).duplication (header f).transfer (header f).loss (cost_at (drop a s)) (cost_at (drop b s)) (cost_at (drop r.start s)) (order f.arcs i) (leaving_in f.lines.now.nodes f.arcs (order f.arcs i))
         ≡ least (family f) r.gene (order f.arcs i)
     inner_least = rw (row_costs n s g r.start T.row.starts, row_costs n s (left f.genes.now g) a kind.1, row_costs n s (right f.genes.now g) b kind.2, ← outs)
-        (inner_step f.header.duplication f.header.transfer f.header.loss (row n s) g (left f.genes.now g) (right f.genes.now g) v (F.out v) ∙ rw pair_is at step_least)
+        (inner_step (header f).duplication (header f).transfer (header f).loss (row n s) g (left f.genes.now g) (right f.genes.now g) v (F.out v) ∙ rw pair_is at step_least)
 
 -- a row begins, and is done
 module _ {f : Source} {s : List ℕ} (S : Ready f) where
-  pub row_begun : {g : ℕ} → RowsIn f s g → PartlyIn f s g f.header.nodes
+  pub row_begun : {g : ℕ} → RowsIn f s g → PartlyIn f s g (header f).nodes
   unfolding family_of nodes_in
   row_begun {g} R = partly_start S.prepared s g R
 
@@ -141,30 +145,30 @@ module _ {f : Source} {s : List ℕ} (S : Ready f) where
   row_done {g} {i} l p = let e : i ≡ 0 = omega arith in partly_end S.prepared s g (rw e at p)
 
 -- so is the table, from no row on
-pub rows_begun : (f : Source) (s : List ℕ) → RowsIn f s f.header.genes
+pub rows_begun : (f : Source) (s : List ℕ) → RowsIn f s (header f).genes
 unfolding family_of gene_tree
 rows_begun f s = rows_none (family f) s
 
 -- the places where rows begin are low, and an inner gene's children are genes
 module _ {f : Source} (S : Ready f) where
-  pub row_low : (g : ℕ) → g ≤ f.header.genes → (g - 1) * f.header.nodes ≤ 16129
-  row_low g u = omega (arith, S.limits.few_nodes, S.limits.few_genes, mul-le-mul {n₂ = 127} {m₂ = 127} (less g u) S.limits.few_nodes)
+  pub row_low : (g : ℕ) → g ≤ (header f).genes → (g - 1) * (header f).nodes ≤ 16129
+  row_low g u = omega (arith, f.lines.now.within.few_nodes, f.lines.now.within.few_genes, mul-le-mul {n₂ = 127} {m₂ = 127} (less g u) f.lines.now.within.few_nodes)
     where
-      less : (g : ℕ) → g ≤ f.header.genes → g - 1 ≤ 127
-      less g u = omega (arith, S.limits.few_genes)
+      less : (g : ℕ) → g ≤ (header f).genes → g - 1 ≤ 127
+      less g u = omega (arith, f.lines.now.within.few_genes)
 
   module _ (g : ℕ) (d : left f.genes.now g ≢ 0) where
     inner_pair : (family f).gene g ≡ pair (left f.genes.now g) (right f.genes.now g)
     unfolding gene_tree
     inner_pair = gene_pair _ _ _ _ g d
 
-    pub left_high : left f.genes.now g ≤ f.header.genes
+    pub left_high : left f.genes.now g ≤ (header f).genes
     unfolding family_of gene_tree
     left_high = S.prepared.graded.left_in g _ _ inner_pair
 
     pub right_low : 1 ≤ right f.genes.now g
     right_low = omega (arith, S.prepared.graded.right_more g _ _ inner_pair)
 
-    pub right_high : right f.genes.now g ≤ f.header.genes
+    pub right_high : right f.genes.now g ≤ (header f).genes
     unfolding family_of gene_tree
     right_high = S.prepared.graded.right_in g _ _ inner_pair

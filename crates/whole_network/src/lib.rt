@@ -6,10 +6,10 @@ ghost use Rattle.histories.specs.Histories.{least};
 ghost use Rattle.histories.specs.inner.Promise.{WholeNetwork};
 ghost use Rattle.cell_costs.specs.inner.Costs.{cost_in};
 ghost use Rattle.arcs.specs.inner.Arcs.{order};
-ghost use Rattle.whole_network.specs.inner.Stages.{family_in, AcceptedIn, family, Ready, Filling, RowOf, RowsIn, PartlyIn, KeptIn, Next};
+ghost use Rattle.whole_network.specs.inner.Stages.{family_in, AcceptedIn, header, family, Ready, Filling, RowOf, RowsIn, PartlyIn, KeptIn, Next};
 
 use arcs::Arcs;
-use layout::Header;
+use cell_costs::Children;
 use layout::genes::Genes;
 use layout::lines::Lines;
 
@@ -20,7 +20,8 @@ enum Kind {
     Pair(usize, usize),
 }
 
-// A gene's row: where it begins, and what its words depend on.
+// A gene's row: where it begins, and what its words depend on. (Places in the scratch, and no slices of it: a row is written while its children's are read.
+// `split_at_mut` could lend both, for these come later, but what is said of the table is said of the scratch as a whole.)
 #[derive(Clone, Copy)]
 struct Row {
     gene: usize,
@@ -31,7 +32,6 @@ struct Row {
 // What the table is filled from.
 #[derive(Clone, Copy)]
 struct Source<'a> {
-    header: Header,
     lines: &'a Lines,
     genes: &'a Genes,
     arcs: Arcs,
@@ -40,15 +40,15 @@ struct Source<'a> {
 impl Source<'_> {
     // The row of gene g. What depends on the gene alone is read here, once for all nodes.
     fn row(&self, g: usize) -> Row
-        requires { Ready self.now × (1 ≤ g) × (g ≤ self.now.header.genes) }
+        requires { Ready self.now × (1 ≤ g) × (g ≤ (header self.now).genes) }
         ensures { RowOf self.now result × (result.gene ≡ g) }
     {
-        let n = self.header.nodes;
-        let left = layout::genes::left(self.genes, g);
+        let n = self.lines.header.nodes;
+        let left = self.genes.left[g] as usize;
         let kind = if left == 0 {
-            Kind::Tip(layout::lines::gene_species(self.lines, n, g))
+            Kind::Tip(self.lines.genes.species[g] as usize)
         } else {
-            let right = layout::genes::right(self.genes, g);
+            let right = self.genes.right[g] as usize;
             let left_start = (left - 1) * n;
             let right_start = (right - 1) * n;
             Kind::Pair(left_start, right_start)
@@ -69,9 +69,13 @@ impl Source<'_> {
         let out = self.arcs.out(self.lines, v);
         let own = &scratch[row.start..];
         match row.kind {
-            Kind::Tip(species) => cell_costs::tip_cost(self.header, own, species, out),
+            Kind::Tip(species) => cell_costs::tip_cost(self.lines.header, own, species, out),
             Kind::Pair(a, b) => {
-                cell_costs::inner_cost(self.header, &scratch[a..], &scratch[b..], own, v, out)
+                let children = Children {
+                    left: &scratch[a..],
+                    right: &scratch[b..],
+                };
+                cell_costs::inner_cost(self.lines.header, children, own, v, out)
             }
         }
     }
@@ -89,12 +93,12 @@ impl Source<'_> {
 
     // The row of gene g, from the last node of the order, for arcs out lead to later ones.
     fn fill_row(&self, g: usize, scratch: &mut [u32])
-        requires { Filling self.now scratch.old × (1 ≤ g) × (g ≤ self.now.header.genes) × RowsIn self.now scratch.old g }
+        requires { Filling self.now scratch.old × (1 ≤ g) × (g ≤ (header self.now).genes) × RowsIn self.now scratch.old g }
         ensures rows_in { RowsIn self.now scratch.new (g - 1) }
         ensures kept_in { KeptIn self.now scratch.old scratch.new }
     {
         let row = self.row(g);
-        for i in (1..=self.header.nodes).rev() {
+        for i in (1..=self.lines.header.nodes).rev() {
             self.fill_word(row, i, scratch);
         }
     }
@@ -105,23 +109,22 @@ impl Source<'_> {
         ensures rows_in { RowsIn self.now scratch.new 0 }
         ensures kept_in { KeptIn self.now scratch.old scratch.new }
     {
-        for g in (1..=self.header.genes).rev() {
+        for g in (1..=self.lines.header.genes).rev() {
             self.fill_row(g, scratch);
         }
     }
 }
 
 // Fills the table of least costs in the scratch, and returns the least cost over all histories of gene 1.
-pub fn fill(h: Header, lines: &Lines, genes: &Genes, scratch: &mut [u32]) -> u32
-    requires { AcceptedIn h lines.now genes.now × (h.genes * h.nodes ≤ length scratch.old) }
-    ensures { WholeNetwork (family_in h lines.now genes.now) scratch.old scratch.new result }
+pub fn fill(lines: &Lines, genes: &Genes, scratch: &mut [u32]) -> u32
+    requires { AcceptedIn lines.now genes.now × (lines.now.header.genes * lines.now.header.nodes ≤ length scratch.old) }
+    ensures { WholeNetwork (family_in lines.now genes.now) scratch.old scratch.new result }
 {
     let source = Source {
-        header: h,
         lines,
         genes,
-        arcs: arcs::lay(h.nodes, lines),
+        arcs: arcs::lay(lines),
     };
     source.fill_rows(scratch);
-    cell_costs::least_start(h.nodes, scratch)
+    cell_costs::least_start(lines.header.nodes, scratch)
 }

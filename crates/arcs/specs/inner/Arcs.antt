@@ -1,10 +1,9 @@
 -- The arcs of a network: of each node the nodes that its arcs out lead to, and an order of the nodes.
 -- Assumes nothing.
-use Rattle.std.specs.Prelude.{◌≡◌, List, ℕ, ◌≤◌}
+use Rattle.std.specs.Prelude.{◌≡◌, ℕ, ◌≤◌}
 use Rattle.finite.specs.Tables.{at}
-use Rattle.topology.specs.Networks.{Network}
 use Rattle.topology.specs.Lines.{NodeLines, network}
-use Rattle.layout.specs.Lines.{nodes_in, node_species}
+use Rattle.layout.specs.declared.lines.NodeColumns.{NodeColumns}
 use Rattle.histories.specs.Histories.{Out as Leaving, leaf, one, two, mixed}
 use Rattle.histories.specs.Families.{out_by, first_child, second_child, other_child}
 use Rattle.histories.specs.inner.Grades.{Order}
@@ -32,12 +31,8 @@ leaving (Two x y) = two x y
 leaving (Mixed x z) = mixed x z
 
 -- those of node v, by its children and its line
-abbrev pub leaving_in : (lines : List ℕ) → Arcs → ℕ → Leaving
-leaving_in lines a v = out_by (first a v) (second a v) (other a v) (node_species lines v)
-
--- the network of the lines
-abbrev pub network_in : ℕ → List ℕ → Network
-network_in n lines = network (nodes_in n lines)
+abbrev pub leaving_in : NodeColumns → Arcs → ℕ → Leaving
+leaving_in l a v = out_by (first a v) (second a v) (other a v) (at l.species v)
 
 -- the columns have the children of each node, and the nodes in order
 pub record Laid (L : NodeLines) (a : Arcs) : Type 0 where

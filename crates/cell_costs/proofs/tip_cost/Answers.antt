@@ -1,23 +1,10 @@
 -- `cell_costs::tip_cost` meets its contract. Each return is one case of what leaves the node.
 -- Assumes nothing.
-use Rattle.std.proofs.Common.{◌∙◌, arith}
+use Rattle.std.proofs.Common.{◌∙◌}
 use Rattle.histories.specs.Histories.{◌lesser◌, resting, moving}
-use Rattle.histories.specs.inner.Grades.{Leads}
 use Rattle.cell_costs.specs.inner.Costs.{tip_cost}
 use Rattle.cell_costs.proofs.Sums.{or_none}
 use Rattle.cell_costs.proofs.tip_cost.Goals as goal
-
-pub after-requires : goal.after-requires
-unfolding Leads
-after-requires c = (omega arith, rw c.in-One.is at c.requires.1)
-
-pub lost-requires : goal.lost-requires
-unfolding Leads
-lost-requires c = let ends = rw c.in-Two.is at c.requires.1 in (c.requires.0.loss, ends.0, ends.1)
-
-pub carried-requires : goal.carried-requires
-unfolding Leads
-carried-requires c = let ends = rw c.in-Mixed.is at c.requires.1 in (c.requires.0.transfer, c.requires.0.loss, ends.0, ends.1)
 
 pub returns-in-Leaf : goal.returns-in-Leaf
 unfolding tip_cost moving

@@ -1,8 +1,7 @@
 -- The byte of a column: each way out of the function is a case of `column_of`.
 -- Assumes nothing.
-use borrow.Author.Tests.{eq-eqb, ne_eqb, lt-ltb, le-ltb}
+use Rattle.std.proofs.Common.{eq-eqb, ne_eqb, lt-ltb, le-ltb, rules}
 use Rattle.columns.proofs.Columns.{worth_positive}
-use borrow.Author.Rules.{rules}
 use Rattle.columns.proofs.column.Goals as goal
 
 pub nonzero_div-digit : goal.nonzero_div-digit

@@ -1,9 +1,8 @@
 -- Writing a field: a number below 100 is written in two parts, the spaces of the front columns and the last two; any other column by column.
 -- Assumes nothing.
-use mathlib.Core.Path.{◌∙◌}
+use Rattle.std.proofs.Common.{◌∙◌, rules}
 use Rattle.columns.specs.Writing.{written}
 use Rattle.columns.proofs.Writing.{field_parts, put_front}
-use borrow.Author.Rules.{rules}
 use Rattle.columns.proofs.write_field.Goals as goal
 
 pub returns-then-n-worth : goal.returns-then-n-worth

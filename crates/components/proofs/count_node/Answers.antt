@@ -1,27 +1,25 @@
 -- `components::count_node` meets its contract. What the top has counted is the index of the reticulation, and then one more.
 -- Assumes nothing.
-use borrow.Author.Rules.{rules}
+use Rattle.std.proofs.Common.{arith}
 use Rattle.components.proofs.Filling.{node_skip, node_top, node_count, node_next}
 use Rattle.components.proofs.count_node.Goals as goal
 
-pub returns-then-secondary-eq0 : goal.returns-then-secondary-eq0
-returns-then-secondary-eq0 c = let s = c.requires in
-    node_skip _ _ s.limits.0 s.parted.0 _ s.limits.1 s.limits.2 _ s.parted.1 c.secondary.ensures c.if-secondary-eq0.true
+pub returns-then-lines-v-eq0 : goal.returns-then-lines-v-eq0
+returns-then-lines-v-eq0 c = let s = c.requires in
+    node_skip _ _ c.args.lines.now.within.few_nodes s.parted.0 _ s.limits.0 s.limits.1 _ s.parted.1 c.if-lines-v-eq0.true
 
-pub reticulation_count-k-requires : goal.reticulation_count-k-requires
-reticulation_count-k-requires c = let s = c.requires in
-    node_top _ _ s.limits.0 s.parted.0 _ s.limits.1 s.limits.2 _ s.parted.1 c.secondary.ensures c.if-secondary-eq0.false c.top-c.ensures
+pub bounds-parts-c : goal.bounds-parts-c
+bounds-parts-c c = let s = c.requires in
+    omega (arith, node_top _ _ c.args.lines.now.within.few_nodes s.parted.0 _ s.limits.0 s.limits.1 _ s.parted.1 c.if-lines-v-eq0.false)
 
-pub overflow_add-k : goal.overflow_add-k
-overflow_add-k c = let s = c.requires in
-    let u = node_count _ _ s.limits.0 s.parted.0 _ s.limits.1 s.limits.2 _ s.parted.1 c.secondary.ensures c.if-secondary-eq0.false c.top-c.ensures c.reticulation_count-k.ensures in
-    search rules
+pub overflow_add-parts : goal.overflow_add-parts
+overflow_add-parts c = let s = c.requires in
+    omega (arith, node_count _ _ c.args.lines.now.within.few_nodes s.parted.0 _ s.limits.0 s.limits.1 _ s.parted.1 c.if-lines-v-eq0.false)
 
-pub put-requires-2 : goal.put-requires-2
-put-requires-2 c = let s = c.requires in
-    let u = node_top _ _ s.limits.0 s.parted.0 _ s.limits.1 s.limits.2 _ s.parted.1 c.secondary.ensures c.if-secondary-eq0.false c.top-c.ensures in
-    search rules
+pub bounds-parts-c-2 : goal.bounds-parts-c-2
+bounds-parts-c-2 c = let s = c.requires in
+    omega (arith, node_top _ _ c.args.lines.now.within.few_nodes s.parted.0 _ s.limits.0 s.limits.1 _ s.parted.1 c.if-lines-v-eq0.false)
 
 pub returns : goal.returns
 returns c = let s = c.requires in
-    node_next _ _ s.limits.0 s.parted.0 _ s.limits.1 s.limits.2 _ s.parted.1 c.secondary.ensures c.if-secondary-eq0.false c.top-c.ensures c.reticulation_count-k.ensures c.put.ensures c.put-2.ensures
+    node_next _ _ c.args.lines.now.within.few_nodes s.parted.0 _ s.limits.0 s.limits.1 _ s.parted.1 c.if-lines-v-eq0.false (omega arith) (omega arith)

@@ -3,17 +3,15 @@
 -- Assumes nothing.
 use Rattle.std.specs.Prelude.{◌≡◌, Bool, ◌&&◌, ◌||◌, not, List, ℕ, ◌≤◌, length}
 use Rattle.std.specs.Bool.{beq}
-use Rattle.finite.specs.Tests.{same}
 use Rattle.finite.specs.Range.{any}
-use Rattle.finite.specs.Tables.{at}
+use Rattle.finite.specs.Tables.{at, holds}
 use Rattle.topology.specs.Networks.{Network, Node, is_reticulation}
 use Rattle.topology.specs.Switchings.{all_principal, above}
 use Rattle.topology.specs.Components.{is_top}
-use Rattle.layout.specs.inner.Parts.{rank}
 
--- the table of parts holds the ranks
+-- the column holds the ranks
 pub record Ranked (N : Network) (t : List ℕ) : Type 0 where
-  pub ranks : (v : ℕ) → v ≤ N.size → rank t v ≡ N.rank v
+  pub ranks : (v : ℕ) → v ≤ N.size → at t v ≡ N.rank v
 
 -- w is above just one of a and b in the principal tree: on the way between them, the node where they meet left out
 unfoldable pub between : Network → (a b w : ℕ) → Bool
@@ -23,20 +21,16 @@ between N a b w = not (beq (above N all_principal w a) (above N all_principal w 
 unfoldable pub bridged : Network → (w r : ℕ) → Bool
 bridged N w r = is_reticulation N r && between N r (N.secondary r) w
 
--- the table marks w
-unfoldable pub marked : List ℕ → ℕ → Bool
-marked marks w = not (same (at marks w) 0)
-
 -- marks and then the way between x and y
-pub record MarkedWay (N : Network) (before after : List ℕ) (x y : ℕ) : Type 0 where
+pub record MarkedWay (N : Network) (before after : List Bool) (x y : ℕ) : Type 0 where
   pub long : length after ≡ 128
-  pub at_each : (w : ℕ) → marked after w ≡ (marked before w || between N x y w)
+  pub at_each : (w : ℕ) → holds after w ≡ (holds before w || between N x y w)
 
 -- the ways of the reticulations 1..k
-pub record MarkedWays (N : Network) (marks : List ℕ) (k : ℕ) : Type 0 where
+pub record MarkedWays (N : Network) (marks : List Bool) (k : ℕ) : Type 0 where
   pub long : length marks ≡ 128
-  pub at_each : (w : ℕ) → marked marks w ≡ any k (bridged N w)
+  pub at_each : (w : ℕ) → holds marks w ≡ any k (bridged N w)
 
 -- what is marked is no top
-pub record NonTops (N : Network) (marks : List ℕ) : Type 0 where
-  pub at_each : (w : ℕ) → Node N w → is_top N w ≡ not (marked marks w)
+pub record NonTops (N : Network) (marks : List Bool) : Type 0 where
+  pub at_each : (w : ℕ) → Node N w → is_top N w ≡ not (holds marks w)

@@ -6,12 +6,13 @@ use Rattle.finite.specs.Range.{count}
 use Rattle.finite.specs.Refusals.{verdict}
 use Rattle.columns.specs.Writing.{written}
 use Rattle.topology.specs.Networks.{is_reticulation}
-use Rattle.topology.specs.Lines.{network}
-use Rattle.layout.specs.Lines.{nodes_in, genes_in}
+use Rattle.layout.specs.Lines.{nodes_of, genes_of, network_of}
 use Rattle.layout.specs.inner.Parts.{reticulation_count, Parted}
 use Rattle.layout.specs.inner.Genes.{gene_tree}
-use Rattle.layout.specs.Headers.{costs, WithinLimits}
-use Rattle.layout.specs.declared.Header.{Header}
+use Rattle.layout.specs.Headers.{costs}
+use Rattle.layout.specs.declared.lines.Lines.{Lines}
+use Rattle.layout.specs.declared.parts.Parts.{Parts}
+use Rattle.layout.specs.declared.genes.Genes.{Genes}
 use Rattle.network.specs.Refusals.{network_refusals}
 use Rattle.components.specs.Refusals.{component_refusals}
 use Rattle.gene_tree.specs.Refusals.{gene_refusals}
@@ -23,13 +24,12 @@ use Rattle.family.specs.Buffers.{least_words, least_bytes}
 use Rattle.family.specs.Families.{Contents, family_in}
 use Rattle.family.specs.Reports.{report_in}
 
--- what a header and the numbers of the lines say
-abbrev pub contents_by : Header → List ℕ → Contents
-contents_by h lines = record { nodes = nodes_in h.nodes lines; genes = genes_in h.nodes h.genes lines; costs = costs h }
+-- what the numbers of the lines say
+abbrev pub contents_by : Lines → Contents
+contents_by l = record { nodes = nodes_of l; genes = genes_of l; costs = costs l.header }
 
--- numbers within the limits of 4, and buffers that hold what is written
-pub record Sized (h : Header) (bytes words : ℕ) : Type 0 where
-  pub limits : WithinLimits h
+-- buffers that hold what is written
+pub record Sized (bytes words : ℕ) : Type 0 where
   pub room : least_bytes ≤ bytes
   pub space : least_words ≤ words
 
@@ -40,25 +40,25 @@ pub record Passed (X : Contents) : Type 0 where
   pub genes : verdict (gene_refusals X.nodes X.genes) ≡ 0
 
 -- and what is worked out once for the family stands in its tables
-pub record Worked (h : Header) (lines parts genes : List ℕ) (bytes words : ℕ) : Type 0 where
-  pub sized : Sized h bytes words
-  pub passed : Passed (contents_by h lines)
-  pub parted : Parted (network (nodes_in h.nodes lines)) parts
-  pub tree : gene_tree h.genes genes ≡ gene_tree_of (nodes_in h.nodes lines) (genes_in h.nodes h.genes lines)
+pub record Worked (lines : Lines) (parts : Parts) (genes : Genes) (bytes words : ℕ) : Type 0 where
+  pub sized : Sized bytes words
+  pub passed : Passed (contents_by lines)
+  pub parted : Parted (network_of lines) parts
+  pub tree : gene_tree lines.header.genes genes ≡ gene_tree_of (nodes_of lines) (genes_of lines)
 
 -- the numbers of the report's first two lines, by what was found and by the tables
-unfoldable pub totals_by : Header → (lines parts : List ℕ) → Found → ℕ → Totals
-totals_by h lines parts found whole = record {
+unfoldable pub totals_by : Lines → Parts → Found → ℕ → Totals
+totals_by lines parts found whole = record {
   cost = found.score.cost;
   duplications = found.score.duplications;
   transfers = found.score.transfers;
   losses = found.score.losses;
   trials = found.trials;
   whole = whole;
-  nodes = h.nodes;
-  genes = h.genes;
-  reticulations = count h.nodes (is_reticulation (network (nodes_in h.nodes lines)));
-  components = count h.nodes (λ c. not (same (reticulation_count parts c) 0));
+  nodes = lines.header.nodes;
+  genes = lines.header.genes;
+  reticulations = count lines.header.nodes (is_reticulation (network_of lines));
+  components = count lines.header.nodes (λ c. not (same (reticulation_count parts c) 0));
 }
 
 -- the report is written over the front of the result, which was d and is e, and the table over that of the scratch, which was u and is t

@@ -1,17 +1,16 @@
 -- The table of the settings of the components, by top: the setting that is tried, and the best so far (01, "Settings and placement": "the best setting so
 -- far of each component").
 -- Assumes nothing.
-use Rattle.std.specs.Prelude.{List, ℕ}
-use Rattle.tables.specs.Columns.{entry}
+use Rattle.std.specs.Prelude.{ℕ}
+use Rattle.finite.specs.Tables.{at, zeros}
+use Rattle.layout.specs.declared.choices.Choices.{Choices}
 
-abbrev pub setting_column : ℕ
-setting_column = 0
+abbrev pub setting : Choices → ℕ → ℕ
+setting t = at t.setting
 
-abbrev pub setting : List ℕ → ℕ → ℕ
-setting t = entry t setting_column
+abbrev pub best : Choices → ℕ → ℕ
+best t = at t.best
 
-abbrev pub best_column : ℕ
-best_column = 1
-
-abbrev pub best : List ℕ → ℕ → ℕ
-best t = entry t best_column
+-- no setting tried
+abbrev pub blank : Choices
+blank = record { setting = zeros; best = zeros }

@@ -1,41 +1,32 @@
--- The table of the tree that a network displays under a switching: of each node the parent whose arc is on, 1 where that arc is secondary, its
--- rank, and how many on arcs leave it.
+-- The table of the tree that a network displays under a switching: of each node the parent whose arc is on, whether that arc is secondary, its rank, and how
+-- many on arcs leave it.
 -- Assumes nothing.
-use Rattle.std.specs.Prelude.{◌≡◌, List, ℕ, ◌≤◌, ◌<◌, length}
-use Rattle.finite.specs.Tests.{tally}
-use Rattle.tables.specs.Columns.{entry}
+use Rattle.std.specs.Prelude.{◌≡◌, Bool, false, ℕ, ◌≤◌, ◌<◌, replicate}
+use Rattle.finite.specs.Tables.{at, holds, zeros}
 use Rattle.topology.specs.Networks.{Network, Node}
 use Rattle.topology.specs.Switchings.{Switching, on_secondary, parent, on_arcs}
+use Rattle.layout.specs.declared.tree.Tree.{Tree}
 
-abbrev pub up_column : ℕ
-up_column = 0
+abbrev pub up : Tree → ℕ → ℕ
+up t = at t.up
 
-abbrev pub up : List ℕ → ℕ → ℕ
-up t = entry t up_column
+abbrev pub lateral : Tree → ℕ → Bool
+lateral t = holds t.lateral
 
-abbrev pub lateral_column : ℕ
-lateral_column = 1
+abbrev pub rank : Tree → ℕ → ℕ
+rank t = at t.rank
 
-abbrev pub lateral : List ℕ → ℕ → ℕ
-lateral t = entry t lateral_column
+abbrev pub arcs : Tree → ℕ → ℕ
+arcs t = at t.arcs
 
-abbrev pub rank_column : ℕ
-rank_column = 2
-
-abbrev pub rank : List ℕ → ℕ → ℕ
-rank t = entry t rank_column
-
-abbrev pub arcs_column : ℕ
-arcs_column = 3
-
-abbrev pub arcs : List ℕ → ℕ → ℕ
-arcs t = entry t arcs_column
+-- a table without entries
+abbrev pub blank : Tree
+blank = record { up = zeros; lateral = replicate 128 false; rank = zeros; arcs = zeros }
 
 -- the table holds network N under switching σ; rows of no node are zeros
-pub record Held (N : Network) (σ : Switching) (t : List ℕ) : Type 0 where
-  pub long : length t ≡ 512
+pub record Held (N : Network) (σ : Switching) (t : Tree) : Type 0 where
   pub ups : (v : ℕ) → up t v ≡ parent N σ v
-  pub laterals : (v : ℕ) → lateral t v ≡ tally (on_secondary N σ v)
+  pub laterals : (v : ℕ) → lateral t v ≡ on_secondary N σ v
   pub ranks : (v : ℕ) → v ≤ N.size → rank t v ≡ N.rank v
   pub counts : (v : ℕ) → Node N v → arcs t v ≡ on_arcs N σ v
   pub past : (v : ℕ) → N.size < v → rank t v ≡ 0

@@ -1,7 +1,6 @@
 -- The room for the sheet is longer than the longest, and the room for the reply is what a report takes at most.
 -- Assumes nothing.
-use native.Mathlib.Omega.{arith}
-use borrow.Author.Rules.{rules}
+use Rattle.std.proofs.Common.{arith, rules}
 use Rattle.lgt_score.proofs.main.Goals as goal
 
 pub reply-length-requires : goal.reply-length-requires

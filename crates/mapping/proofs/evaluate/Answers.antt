@@ -1,5 +1,5 @@
 -- The goals of `evaluate` that are left: see Invariants.antt for the idea.
-use native.Mathlib.Omega.{arith}
+use Rattle.std.proofs.Common.{arith}
 use Rattle.mapping.proofs.Evaluating.{upto_start, counted, scored, evaluated}
 use Rattle.mapping.proofs.evaluate.Goals as goal
 

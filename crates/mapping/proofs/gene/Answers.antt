@@ -4,17 +4,15 @@ use Rattle.mapping.proofs.Evaluating.{leaf_turn, inner_fits, inner_room, inner_t
 use Rattle.mapping.proofs.gene.Goals as goal
 
 pub returns-then-a-eq0 : goal.returns-then-a-eq0
-returns-then-a-eq0 c = let s = c.requires in leaf_turn s.family.0 s.family.1 s.family.2 s.upto c.left-a.ensures c.if-a-eq0.true
+returns-then-a-eq0 c = let s = c.requires in leaf_turn s.family.0 s.family.1 s.family.2 s.upto c.if-a-eq0.true
 
 pub inner-p-requires : goal.inner-p-requires
-inner-p-requires c = let s = c.requires in
-    let f = inner_fits s.family.0 s.family.1 s.family.2 s.upto c.left-a.ensures c.if-a-eq0.false c.right-b.ensures in
-    (s.family.0.tree, f.0, f.1, f.2, f.3)
+inner-p-requires c = let s = c.requires in inner_fits s.family.0 s.family.1 s.family.2 s.upto c.if-a-eq0.false
 
 pub raise-requires : goal.raise-requires
 raise-requires c = let s = c.requires in
-    inner_room s.family.0 s.family.1 s.family.2 s.upto c.left-a.ensures c.if-a-eq0.false c.right-b.ensures c.inner-p.ensures.paired
+    inner_room s.family.0 s.family.1 s.family.2 s.upto c.if-a-eq0.false c.inner-p.ensures.paired
 
 pub returns : goal.returns
 returns c = let s = c.requires in
-    inner_turn s.family.0 s.family.1 s.family.2 s.upto c.left-a.ensures c.if-a-eq0.false c.right-b.ensures c.inner-p.ensures.paired c.inner-p.ensures.results c.raise.ensures
+    inner_turn s.family.0 s.family.1 s.family.2 s.upto c.if-a-eq0.false c.inner-p.ensures.paired c.inner-p.ensures.results c.raise.ensures

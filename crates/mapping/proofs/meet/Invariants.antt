@@ -3,7 +3,7 @@
 -- Assumes nothing.
 use Rattle.mapping.proofs.Meeting.{Climbing}
 use Rattle.mapping.specs.inner.Climbs.{tree_of}
-use Prim.Native.Nat.{◌+◌}
+use Rattle.std.proofs.Common.{◌+◌}
 use Rattle.mapping.proofs.meet.Given as goal
 
 abbrev pub invariant-loop-a : goal.invariant-loop-a

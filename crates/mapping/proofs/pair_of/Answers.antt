@@ -1,7 +1,7 @@
 -- Place, ways, event and steps of a pair, one after the other; together they are what the mapping says of it (proofs/Pairing).
 -- Assumes nothing.
 use Rattle.mapping.proofs.Pairing.{lasts_few, passable_left, passable_right, paired}
-use borrow.Author.Rules.{rules}
+use Rattle.std.proofs.Common.{rules}
 use Rattle.mapping.proofs.pair_of.Goals as goal
 
 pub sends-requires : goal.sends-requires

@@ -1,5 +1,5 @@
 -- The goals of `seat_leaves` that are left: see Invariants.antt for the idea.
-use native.Mathlib.Omega.{arith}
+use Rattle.std.proofs.Common.{arith}
 use Rattle.mapping.proofs.Evaluating.{leaves_start, leaves_done, leaves_after}
 use Rattle.mapping.proofs.seat_leaves.Goals as goal
 

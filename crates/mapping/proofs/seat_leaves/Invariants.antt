@@ -1,6 +1,6 @@
 -- Every gene once. The invariant: the leaf genes below k are seated (`LeavesUpto`).
 -- Assumes nothing.
-use Prim.Native.Nat.{◌-◌}
+use Rattle.std.proofs.Common.{◌-◌}
 use Rattle.mapping.specs.inner.Evaluation.{LeavesUpto}
 use Rattle.mapping.proofs.seat_leaves.Given as goal
 

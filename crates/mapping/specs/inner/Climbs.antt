@@ -1,8 +1,9 @@
 -- A displayed tree in a table, and where two climbers in it meet.
 -- Assumes nothing.
-use Rattle.std.specs.Prelude.{◌≡◌, ◌≢◌, ◌⊎◌, List, ℕ, ◌+◌, ◌≤◌}
+use Rattle.std.specs.Prelude.{◌≡◌, ◌≢◌, ◌⊎◌, ℕ, ◌+◌, ◌≤◌}
 use Rattle.finite.specs.Tests.{same, tally}
 use Rattle.layout.specs.inner.Tree.{up, lateral, rank, arcs}
+use Rattle.layout.specs.declared.tree.Tree.{Tree as Table}
 use Rattle.displayed.specs.Displayed.{Displayed, NodeOf, Tree, common, way, departure}
 use Rattle.displayed.specs.inner.Arcs.{move, mark}
 use Rattle.displayed.specs.inner.Tabled.{tree_in}
@@ -10,19 +11,18 @@ use Rattle.mapping.specs.declared.Way.{Way}
 use Rattle.mapping.specs.declared.Met.{Met}
 
 -- 1 for a node that two on arcs leave
-unfoldable pub fork_in : List ℕ → ℕ → ℕ
+unfoldable pub fork_in : Table → ℕ → ℕ
 fork_in t v = tally (same (arcs t v) 2)
 
 -- the tree of the nodes 1 .. n
-unfoldable pub tree_of : ℕ → List ℕ → Displayed
-tree_of n t = tree_in n (up t) (rank t) (lateral t) (fork_in t)
+unfoldable pub tree_of : ℕ → Table → Displayed
+tree_of n t = tree_in n (up t) (rank t) (λ v. tally (lateral t v)) (fork_in t)
 
--- what a climb needs of the table: a tree of at most 127 nodes, each with a rank, marks of 0 or 1, and no more than two on arcs out of a node
-pub record Climbable (n : ℕ) (t : List ℕ) : Type 0 where
+-- what a climb needs of the table: a tree of at most 127 nodes, each with a rank, and no more than two on arcs out of a node
+pub record Climbable (n : ℕ) (t : Table) : Type 0 where
   pub few : n ≤ 127
   pub tree : Tree (tree_of n t)
   pub ranks : (v : ℕ) → 1 ≤ v → v ≤ n → 1 ≤ rank t v
-  pub laterals : (v : ℕ) → lateral t v ≤ 1
   pub ups : (v : ℕ) → up t v ≤ n
   pub narrow : (c d e : ℕ) → NodeOf (tree_of n t) c → NodeOf (tree_of n t) d → NodeOf (tree_of n t) e → c ≢ d → up t c ≡ up t d → up t e ≡ up t c → (e ≡ c) ⊎ (e ≡ d)
 
@@ -32,8 +32,8 @@ pub record Light (w : Way) : Type 0 where
   pub losses : w.losses ≤ 1000
 
 -- the way w once the arc into a is climbed too: a transfer where it is secondary, a loss where two on arcs leave its upper end
-unfoldable pub climbed_by : List ℕ → Way → ℕ → Way
-climbed_by t w a = record { transfers = w.transfers + lateral t a; losses = w.losses + fork_in t (up t a); last = a }
+unfoldable pub climbed_by : Table → Way → ℕ → Way
+climbed_by t w a = record { transfers = w.transfers + tally (lateral t a); losses = w.losses + fork_in t (up t a); last = a }
 
 -- w is the way from b down to x: what its arcs add up to, every node above x being passed, and its first arc, 0 where there is none
 pub record IsWay (T : Displayed) (b x : ℕ) (w : Way) : Type 0 where

@@ -11,6 +11,8 @@ use Rattle.layout.specs.Headers.{WithinLimits}
 use Rattle.layout.specs.declared.Header.{Header}
 use Rattle.layout.specs.declared.events.Event.{Event}
 use Rattle.layout.specs.declared.results.Placed.{Placed}
+use Rattle.layout.specs.declared.tree.Tree.{Tree}
+use Rattle.layout.specs.declared.genes.Genes.{Genes}
 use Rattle.reconciliation.specs.GeneTrees.{GeneTree, Rooted}
 use Rattle.reconciliation.specs.Costs.{Costs}
 use Rattle.displayed.specs.Displayed.{Displayed, NodeOf}
@@ -21,7 +23,7 @@ use Rattle.mapping.specs.declared.Pair.{Pair}
 use Rattle.mapping.specs.declared.Score.{Score}
 
 -- what is lent: a displayed tree, and a gene tree whose leaf genes sit at nodes of it
-pub record Family (h : Header) (t g : List ℕ) : Type 0 where
+pub record Family (h : Header) (t : Tree) (g : Genes) : Type 0 where
   pub limits : WithinLimits h
   pub tree : Climbable h.nodes t
   pub rooted : Rooted (gene_tree h.genes g)
@@ -36,7 +38,7 @@ pub record Lent (G : GeneTree) (r : List Placed) : Type 0 where
   pub no_losses : (g : ℕ) → G.parent g ≡ 0 → R.losses r g ≡ 0
 
 -- no gene has a way yet, and of the leaf genes those up to k have their place and event
-pub record LeavesUpto (g : List ℕ) (k : ℕ) (r : List Placed) : Type 0 where
+pub record LeavesUpto (g : Genes) (k : ℕ) (r : List Placed) : Type 0 where
   pub long : length r ≡ 128
   pub places : (j : ℕ) → 1 ≤ j → j ≤ k → L.left g j ≡ 0 → R.place r j ≡ L.leaf g j
   pub events : (j : ℕ) → 1 ≤ j → j ≤ k → L.left g j ≡ 0 → R.event r j ≡ 0
@@ -44,7 +46,7 @@ pub record LeavesUpto (g : List ℕ) (k : ℕ) (r : List Placed) : Type 0 where
   pub no_losses : (j : ℕ) → R.losses r j ≡ 0
 
 -- the children of a gene have their places
-pub record Seats (n : ℕ) (t : List ℕ) (r : List Placed) (a b : ℕ) : Type 0 where
+pub record Seats (n : ℕ) (t : Tree) (r : List Placed) (a b : ℕ) : Type 0 where
   pub left : NodeOf (tree_of n t) (R.place r a)
   pub right : NodeOf (tree_of n t) (R.place r b)
 

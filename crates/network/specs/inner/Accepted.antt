@@ -5,7 +5,7 @@ use Rattle.topology.specs.Networks.{Network, Node, Sound}
 use Rattle.topology.specs.Lines.{NodeLines, network}
 use Rattle.shapes.specs.Refusals.{IsLeaf, Shape}
 
--- a number that is no node has no parents, as the lines in an array have it (`nodes_in`)
+-- a number that is no node has no parents, as the columns have it (`nodes_in`)
 pub record NoOthers (L : NodeLines) : Type 0 where
   pub zero_principal : L.principal 0 ≡ 0
   pub zero_secondary : L.secondary 0 ≡ 0

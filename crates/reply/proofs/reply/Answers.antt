@@ -1,7 +1,6 @@
 -- The answer to what was read is the reply to the whole text: proofs/Replying.
 -- Assumes nothing.
-use Rattle.std.proofs.Common.{rules, sym, arith}
-use lib.Seq.{length-take-le}
+use Rattle.std.proofs.Common.{rules, sym, arith, length-take-le}
 use Rattle.reply.proofs.Replying.{replied_report, replied_refused, refusal_keeps}
 use Rattle.reply.proofs.reply.Goals as goal
 

@@ -1,6 +1,6 @@
 -- The line is copied to the front, and the rest is as it was.
 -- Assumes nothing.
-use mathlib.Core.Path.{refl}
+use Rattle.std.proofs.Common.{refl}
 use Rattle.reply.proofs.Told.{copied}
 use Rattle.reply.proofs.write_refusal.Goals as goal
 

@@ -1,5 +1,5 @@
 -- The goals of `write_lines` that are left: see Invariants.antt for the idea.
-use native.Mathlib.Omega.{arith}
+use Rattle.std.proofs.Common.{arith}
 use Rattle.report.proofs.Writing.{lines_start, lines_done, told_room, told_turn, told_after}
 use Rattle.report.proofs.write_lines.Goals as goal
 use Rattle.report.proofs.write_lines.Goals.{else-loop-v-test, then-loop-v-test+else-v-n}

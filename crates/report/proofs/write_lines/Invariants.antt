@@ -1,6 +1,6 @@
 -- A line for each number that has one. The invariant: those of the numbers below v are written, and the rest is as it was.
 -- Assumes nothing.
-use Prim.Native.Nat.{◌+◌, ◌-◌, ◌≤◌}
+use Rattle.std.proofs.Common.{◌+◌, ◌-◌, ◌≤◌}
 use Rattle.report.specs.Reports.{Extended}
 use Rattle.report.specs.inner.Written.{Telling, Tells}
 use Rattle.report.proofs.write_lines.Given as goal

@@ -1,23 +1,23 @@
 -- The report: its three parts one after the other, each with the room that the part before left it.
 -- Assumes nothing.
-use mathlib.Core.Path.{◌∙◌}
+use Rattle.std.proofs.Common.{◌∙◌}
 use Rattle.report.specs.Reports.{report_of, report_length}
 use Rattle.report.proofs.Writing.{totals_room, nodes_room, genes_room, report_bytes, report_end}
 use Rattle.report.proofs.write_report.Goals as goal
 
 pub write_totals-next-requires : goal.write_totals-next-requires
-write_totals-next-requires c = let p = c.requires in (totals_room _ _ _ _ p.room, p.limits.2)
+write_totals-next-requires c = let p = c.requires in (totals_room _ _ _ _ p.room, p.small)
 
 pub write_reticulations-last-requires : goal.write_reticulations-last-requires
 write_reticulations-last-requires c = let p = c.requires in
     let w = c.write_totals-next in
-    (p.limits.0, p.limits.3, nodes_room _ _ _ _ _ _ p.room w.ensures.1 w.auto.res)
+    nodes_room _ _ _ _ _ _ p.room w.ensures.1 w.auto.res
 
 pub write_genes-requires : goal.write_genes-requires
 write_genes-requires c = let p = c.requires in
     let w = c.write_totals-next in
     let v = c.write_reticulations-last in
-    (p.limits.1, p.limits.4, genes_room _ _ _ _ _ _ _ p.room w.ensures.1 v.ensures.after (v.auto.res ∙ w.auto.res))
+    genes_room _ _ _ _ _ _ _ p.room w.ensures.1 v.ensures.after (v.auto.res ∙ w.auto.res)
 
 pub returns : goal.returns
 unfolding report_of report_length

@@ -1,6 +1,6 @@
 -- The first two lines, one after the other.
 -- Assumes nothing.
-use native.Mathlib.Omega.{arith}
+use Rattle.std.proofs.Common.{arith}
 use Rattle.report.proofs.Writing.{first_small, second_small, totals_written}
 use Rattle.report.proofs.write_totals.Goals as goal
 

@@ -1,50 +1,28 @@
 -- A sheet whose header is within the limits: 5 where the length or a later line is amiss, else the outcome of its lines.
 -- Assumes nothing.
-use native.Mathlib.Omega.{arith}
-use Rattle.score.proofs.Outcomes.{header_is, not_whole, nodes_amiss, genes_amiss, all_well, numbered, five_passed, five_refused}
-use Rattle.sheet.proofs.Storing.{cells_start}
+use Rattle.std.proofs.Common.{Result, subst}
+use Rattle.layout.specs.declared.lines.Lines.{Lines}
+use Rattle.refusals.specs.declared.Refusal.{Refusal}
+use Rattle.refusals.proofs.Numbers.{handed_on}
+use Rattle.sheet.specs.Sheets.{LinesRead}
+use Rattle.score.proofs.Outcomes.{header_is, amiss, numbered, five_passed, five_refused}
 use Rattle.score.proofs.score_lines.Goals as goal
 
-pub is_whole-requires : goal.is_whole-requires
-is_whole-requires c = let f = (header_is _ _ c.requires.header).limited in (f.few_nodes, f.few_genes)
+pub read_lines-requires : goal.read_lines-requires
+read_lines-requires c = (header_is _ _ c.requires.header).limited
 
-pub returns-then-not-is_whole : goal.returns-then-not-is_whole
-returns-then-not-is_whole c = let p = c.requires in
+pub returns-in_err-lines : goal.returns-in_err-lines
+returns-in_err-lines c = let p = c.requires in
     let k = header_is _ _ p.header in
-    five_refused _ _ k _ _ p.room p.space (not_whole _ _ k _ c.is_whole.ensures c.if-not-is_whole.true-raw)
-
-pub overflow_add-n : goal.overflow_add-n
-overflow_add-n c = let f = (header_is _ _ c.requires.header).limited in omega (arith, f.few_nodes, f.few_genes)
-
-pub overflow_add-n-2 : goal.overflow_add-n-2
-overflow_add-n-2 c = let f = (header_is _ _ c.requires.header).limited in omega (arith, f.few_nodes, f.few_genes)
-
-pub cells-requires : goal.cells-requires
-cells-requires c = let f = (header_is _ _ c.requires.header).limited in (omega (arith, f.few_nodes, f.few_genes), cells_start _)
-
-pub nodes_in_order-requires : goal.nodes_in_order-requires
-nodes_in_order-requires c = let f = (header_is _ _ c.requires.header).limited in omega (arith, f.few_nodes, f.few_genes)
-
-pub returns-then-not-nodes_in_order : goal.returns-then-not-nodes_in_order
-returns-then-not-nodes_in_order c = let p = c.requires in
-    let k = header_is _ _ p.header in
-    five_refused _ _ k _ _ p.room p.space (nodes_amiss _ _ k _ c.cells.ensures _ c.nodes_in_order.ensures c.if-not-nodes_in_order.true-raw)
-
-pub genes_in_order-requires : goal.genes_in_order-requires
-genes_in_order-requires c = let f = (header_is _ _ c.requires.header).limited in (f.few_nodes, f.few_genes)
-
-pub returns-then-not-genes_in_order : goal.returns-then-not-genes_in_order
-returns-then-not-genes_in_order c = let p = c.requires in
-    let k = header_is _ _ p.header in
-    five_refused _ _ k _ _ p.room p.space (genes_amiss _ _ k _ c.cells.ensures _ c.genes_in_order.ensures c.if-not-genes_in_order.true-raw)
+    let R = subst (λ (x : Result Lines Refusal). LinesRead c.args.sheet.now c.args.h x) c.in_err-lines.was c.read_lines.ensures in
+    rw (handed_on _ _ c.from_residual.ensures.1, R.1) (five_refused _ _ k _ _ p.room p.space (amiss _ _ k R.0))
 
 pub score_network-requires : goal.score_network-requires
 score_network-requires c = let p = c.requires in
-    numbered _ _ (header_is _ _ p.header) _ c.cells.ensures _ _ p.room p.space
+    let R = subst (λ (x : Result Lines Refusal). LinesRead c.args.sheet.now c.args.h x) c.in_ok-lines.was c.read_lines.ensures in
+    numbered _ _ (header_is _ _ p.header) c.in_ok-lines.lines R _ _ p.room p.space
 
 pub returns : goal.returns
 returns c = let p = c.requires in
-    let k = header_is _ _ p.header in
-    let cells_are = c.cells.ensures in
-    let well = all_well _ _ k _ cells_are _ _ _ c.is_whole.ensures c.if-not-is_whole.false-raw c.nodes_in_order.ensures c.if-not-nodes_in_order.false-raw c.genes_in_order.ensures c.if-not-genes_in_order.false-raw in
-    five_passed _ _ k _ cells_are _ _ _ _ _ p.room p.space well c.score_network.ensures
+    let R = subst (λ (x : Result Lines Refusal). LinesRead c.args.sheet.now c.args.h x) c.in_ok-lines.was c.read_lines.ensures in
+    five_passed _ _ (header_is _ _ p.header) c.in_ok-lines.lines R _ _ _ _ _ p.room p.space c.score_network.ensures

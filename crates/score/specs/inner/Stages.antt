@@ -2,7 +2,8 @@
 -- Assumes nothing.
 use Rattle.std.specs.Prelude.{◌≡◌, List, ℕ, ◌≤◌, length, Result, Ok}
 use Rattle.finite.specs.Refusals.{verdict}
-use Rattle.layout.specs.Lines.{nodes_in}
+use Rattle.layout.specs.Lines.{nodes_of}
+use Rattle.layout.specs.declared.lines.Lines.{Lines}
 use Rattle.layout.specs.declared.Header.{Header}
 use Rattle.network.specs.Refusals.{network_refusals}
 use Rattle.components.specs.Refusals.{component_refusals}
@@ -21,19 +22,19 @@ pub record Lined (s : List ℕ) (h : Header) (bytes words : ℕ) : Type 0 where
   pub room : least_bytes ≤ bytes
   pub space : least_words ≤ words
 
--- a header and buffers that fit, and every stamp in a field
-pub record Numbered (h : Header) (lines : List ℕ) (bytes words : ℕ) : Type 0 where
-  pub sized : Sized h bytes words
-  pub stamps : Dated h.nodes lines
+-- buffers that fit, and every stamp in a field
+pub record Numbered (lines : Lines) (bytes words : ℕ) : Type 0 where
+  pub sized : Sized bytes words
+  pub stamps : Dated lines.header.nodes lines.nodes
 
 -- none of 6 to 11 applies
-pub record Curated (h : Header) (lines : List ℕ) : Type 0 where
-  pub network : verdict (network_refusals (nodes_in h.nodes lines)) ≡ 0
-  pub component : verdict (component_refusals (nodes_in h.nodes lines)) ≡ 0
+pub record Curated (lines : Lines) : Type 0 where
+  pub network : verdict (network_refusals (nodes_of lines)) ≡ 0
+  pub component : verdict (component_refusals (nodes_of lines)) ≡ 0
 
 -- the outcome of the curators' refusals for these lines, and of all refusals for a sheet
-abbrev pub OutcomeBy : Header → (lines d e u t : List ℕ) → Result ℕ Refusal → Type 0
-OutcomeBy h lines d e u t r = Outcome (verdict (curator_refusals (contents_by h lines))) (contents_by h lines) d e u t r
+abbrev pub OutcomeBy : Lines → (d e u t : List ℕ) → Result ℕ Refusal → Type 0
+OutcomeBy lines d e u t r = Outcome (verdict (curator_refusals (contents_by lines))) (contents_by lines) d e u t r
 
 abbrev pub OutcomeOf : (s d e u t : List ℕ) → Result ℕ Refusal → Type 0
 OutcomeOf s d e u t r = Outcome (refusal s (length d) (length u)) (contents_of s) d e u t r

@@ -1,7 +1,6 @@
 -- The number that is returned tells the answer of the call of crate score, and the promise is that call's own.
 -- Assumes nothing.
-use mathlib.Core.Path.{subst}
-use Prim.Native.Nat.{ℕ, ◌≤◌, ◌<◌}
+use Rattle.std.proofs.Common.{subst, ℕ, ◌≤◌, ◌<◌}
 use Rattle.finite.specs.Refusals.{least_report}
 use Rattle.answer.proofs.Answers.{below_refused, above_report}
 use Rattle.score_c.proofs.lgt_score.Goals as goal

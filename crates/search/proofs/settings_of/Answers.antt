@@ -1,8 +1,7 @@
 -- A shift by at most 8 places is a power that fits, so nothing is cut off.
 -- Assumes nothing.
-use Prim.Native.Nat.{◌^◌, ◌≤◌}
+use Rattle.std.proofs.Common.{◌^◌, ◌≤◌, arith}
 use native.Mathlib.Nat.{pow-le-pow_right}
-use native.Mathlib.Omega.{arith}
 use Rattle.finite.proofs.Tests.{is_same, not_same}
 use Rattle.optimum.specs.Optimum.{trials_of}
 use Rattle.search.proofs.settings_of.Goals as goal

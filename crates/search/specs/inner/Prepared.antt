@@ -2,18 +2,20 @@
 -- tables that it works in.
 -- Assumes nothing.
 use Rattle.std.specs.Prelude.{◌≡◌, List, ℕ, ◌≤◌}
-use Rattle.layout.specs.Lines.{nodes_in}
+use Rattle.layout.specs.Lines.{network_of}
 use Rattle.layout.specs.inner.Parts.{Parted}
 use Rattle.layout.specs.inner.Tree.{Held}
 use Rattle.layout.specs.inner.Genes.{gene_tree}
 use Rattle.layout.specs.inner.Results as R
-use Rattle.layout.specs.Headers.{costs, WithinLimits}
-use Rattle.layout.specs.declared.Header.{Header}
+use Rattle.layout.specs.Headers.{costs}
+use Rattle.layout.specs.declared.lines.Lines.{Lines}
+use Rattle.layout.specs.declared.parts.Parts.{Parts}
+use Rattle.layout.specs.declared.tree.Tree.{Tree}
+use Rattle.layout.specs.declared.genes.Genes.{Genes}
 use Rattle.layout.specs.declared.results.Placed.{Placed}
 use Rattle.topology.specs.Networks.{Network, Sound}
 use Rattle.topology.specs.Switchings.{Switching}
 use Rattle.topology.specs.Components.{reticulation_count}
-use Rattle.topology.specs.Lines.{network}
 use Rattle.reconciliation.specs.GeneTrees.{GeneTree, Rooted, Seated}
 use Rattle.reconciliation.specs.Costs.{Costs}
 use Rattle.displayed.specs.Model.{place, event, transfers, losses, duplication_count, transfer_count, loss_count, lca_cost}
@@ -22,24 +24,17 @@ use Rattle.switching.specs.inner.Turning.{SomeHeld}
 use Rattle.mapping.specs.inner.Evaluation.{Lent}
 use Rattle.mapping.specs.declared.Score.{Score}
 
-abbrev pub network_of : Header → List ℕ → Network
-network_of h lines = network (nodes_in h.nodes lines)
-
-abbrev pub genes_of : Header → List ℕ → GeneTree
-genes_of h genes = gene_tree h.genes genes
-
-pub record Prepared (h : Header) (lines parts genes : List ℕ) : Type 0 where
-  pub limits : WithinLimits h
-  pub sound : Sound (network_of h lines)
-  pub few : (c : ℕ) → reticulation_count (network_of h lines) c ≤ 8
-  pub parted : Parted (network_of h lines) parts
-  pub rooted : Rooted (genes_of h genes)
-  pub seated : Seated (network_of h lines) (genes_of h genes)
+pub record Prepared (lines : Lines) (parts : Parts) (genes : Genes) : Type 0 where
+  pub sound : Sound (network_of lines)
+  pub few : (c : ℕ) → reticulation_count (network_of lines) c ≤ 8
+  pub parted : Parted (network_of lines) parts
+  pub rooted : Rooted (gene_tree lines.header.genes genes)
+  pub seated : Seated (network_of lines) (gene_tree lines.header.genes genes)
 
 -- the tree of some switching, and a table of results to write in
-pub record Working (h : Header) (lines genes t : List ℕ) (r : List Placed) : Type 0 where
-  pub held : SomeHeld (network_of h lines) t
-  pub lent : Lent (genes_of h genes) r
+pub record Working (lines : Lines) (genes : Genes) (t : Tree) (r : List Placed) : Type 0 where
+  pub held : SomeHeld (network_of lines) t
+  pub lent : Lent (gene_tree lines.header.genes genes) r
 
 -- the counts and the cost of a switching (01, "Settings and placement")
 unfoldable pub score_under : Network → GeneTree → Costs → Switching → Score
@@ -58,8 +53,8 @@ pub record Reconciled (N : Network) (G : GeneTree) (σ : Switching) (r : List Pl
   pub lost : (g : ℕ) → 1 ≤ g → g ≤ G.count → R.losses r g ≡ losses N G σ g
 
 -- the tree and the genes of the switching that has the setting f c at each component c, and its score
-pub record Assembled (h : Header) (lines genes : List ℕ) (f : ℕ → ℕ) (t : List ℕ) (r : List Placed) (s : Score) : Type 0 where
-  pub held : Held (network_of h lines) (assembled (network_of h lines) f) t
-  pub lent : Lent (genes_of h genes) r
-  pub mapped : Reconciled (network_of h lines) (genes_of h genes) (assembled (network_of h lines) f) r
-  pub score : s ≡ score_under (network_of h lines) (genes_of h genes) (costs h) (assembled (network_of h lines) f)
+pub record Assembled (lines : Lines) (genes : Genes) (f : ℕ → ℕ) (t : Tree) (r : List Placed) (s : Score) : Type 0 where
+  pub held : Held (network_of lines) (assembled (network_of lines) f) t
+  pub lent : Lent (gene_tree lines.header.genes genes) r
+  pub mapped : Reconciled (network_of lines) (gene_tree lines.header.genes genes) (assembled (network_of lines) f) r
+  pub score : s ≡ score_under (network_of lines) (gene_tree lines.header.genes genes) (costs lines.header) (assembled (network_of lines) f)

@@ -1,11 +1,11 @@
 -- One step of the search, and where the search stands between two steps. The table of choices and the stage hold the state of crate optimum's machine, and
 -- beside it what the best of the component being scored costs, so that a step evaluates one setting only.
 -- Assumes nothing.
-use Rattle.std.specs.Prelude.{◌≡◌, ◌≢◌, Bool, cond, ◌||◌, List, ℕ, ◌+◌, ◌≤◌, ◌<◌, length}
+use Rattle.std.specs.Prelude.{◌≡◌, ◌≢◌, Bool, true, cond, List, ℕ, ◌+◌, ◌≤◌, ◌<◌, set, Option, Some, None}
 use Rattle.finite.specs.Tests.{same, under}
 use Rattle.finite.specs.Range.{sum}
-use Rattle.tables.specs.Columns.{written}
-use Rattle.layout.specs.inner.Choices.{setting_column, setting, best_column, best}
+use Rattle.layout.specs.inner.Choices.{setting, best}
+use Rattle.layout.specs.declared.choices.Choices.{Choices}
 use Rattle.topology.specs.Networks.{Network}
 use Rattle.reconciliation.specs.GeneTrees.{GeneTree}
 use Rattle.reconciliation.specs.Costs.{Costs}
@@ -13,9 +13,10 @@ use Rattle.optimum.specs.Optimum.{settings, trials, trial_cost}
 use Rattle.optimum.specs.Machine.{state_of, search_after}
 use Rattle.search.specs.declared.Stage.{Stage}
 
--- setting x becomes the best: it is the component's first, or it costs less than the least so far
-unfoldable pub takes : (x cost least : ℕ) → Bool
-takes x cost least = same x 0 || under cost least
+-- a setting becomes the best: it is the component's first, or it costs less than the least so far
+unfoldable pub takes : (least : Option ℕ) (cost : ℕ) → Bool
+takes None _ = true
+takes (Some so_far) cost = under cost so_far
 
 -- numbers that a step can raise
 pub record Settling (s : Stage) : Type 0 where
@@ -23,37 +24,36 @@ pub record Settling (s : Stage) : Type 0 where
   pub setting : s.setting ≤ 100000
   pub count : s.count ≤ 100000
 
--- the stage and the choices once the next setting was found to cost this
+-- the stage and the bests once the next setting was found to cost this
 unfoldable pub settled_stage : Stage → ℕ → Stage
-settled_stage s cost = record { done = s.done; setting = s.setting + 1; least = cond (takes s.setting cost s.least) cost s.least; count = s.count + 1 }
+settled_stage s cost = record { done = s.done; setting = s.setting + 1; least = cond (takes s.least cost) (Some cost) s.least; count = s.count + 1 }
 
-unfoldable pub settled_choices : Stage → ℕ → List ℕ → List ℕ
-settled_choices s cost t = cond (takes s.setting cost s.least) (written t best_column (s.done + 1) s.setting) t
+unfoldable pub settled_bests : Stage → ℕ → List ℕ → List ℕ
+settled_bests s cost bests = cond (takes s.least cost) (set bests (s.done + 1) s.setting) bests
 
 pub record SettledBy (s : Stage) (cost : ℕ) (before after : List ℕ) (r : Stage) : Type 0 where
   pub stage : r ≡ settled_stage s cost
-  pub choices : after ≡ settled_choices s cost before
+  pub bests : after ≡ settled_bests s cost before
 
--- and once all of the next component are scored
+-- and the stage and the settings tried once all of the next component are scored
 pub record Finished (s : Stage) (before after : List ℕ) (r : Stage) : Type 0 where
-  pub stage : r ≡ record { done = s.done + 1; setting = 0; least = 0; count = s.count }
-  pub choices : after ≡ written before setting_column (s.done + 1) 0
+  pub stage : r ≡ record { done = s.done + 1; setting = 0; least = None; count = s.count }
+  pub settings : after ≡ set before (s.done + 1) 0
 
 module _ (N : Network) (G : GeneTree) (C : Costs) where
   -- the settings of the components up to `done` are scored, and those below `setting` of the next one: the state is 01's after so many steps. Only the
   -- component being scored may have a setting other than 0
-  pub record Reached (choices : List ℕ) (s : Stage) : Type 0 where
-    pub long : length choices ≡ 512
+  pub record Reached (choices : Choices) (s : Stage) : Type 0 where
     pub state : state_of (best choices) s.count ≡ search_after N G C (sum s.done (settings N) + s.setting)
-    pub cached : s.setting ≢ 0 → s.least ≡ trial_cost N G C (s.done + 1) (best choices (s.done + 1))
+    pub cached : s.least ≡ cond (same s.setting 0) None (Some (trial_cost N G C (s.done + 1) (best choices (s.done + 1))))
     pub clear : (c : ℕ) → c ≢ s.done + 1 → setting choices c ≡ 0
 
   -- and a setting of the next component is left
-  pub record Awaiting (choices : List ℕ) (s : Stage) : Type 0 where
+  pub record Awaiting (choices : Choices) (s : Stage) : Type 0 where
     pub reached : Reached choices s
     pub inside : s.done < N.size
     pub left : s.setting < settings N (s.done + 1)
 
   -- the last state: "With no setting left the search stops"
-  abbrev pub Last : List ℕ → ℕ → Type 0
-  Last choices count = state_of (best choices) count ≡ search_after N G C (trials N)
+  abbrev pub Last : (bests : ℕ → ℕ) (count : ℕ) → Type 0
+  Last bests count = state_of bests count ≡ search_after N G C (trials N)

@@ -3,16 +3,10 @@
 -- Assumes nothing.
 use Rattle.std.specs.Prelude.{◌≡◌, ℕ, ◌≤◌}
 use Rattle.finite.specs.Range.{children}
-use Rattle.finite.specs.Tables.{at, zeros}
+use Rattle.finite.specs.Tables.{at}
 use Rattle.topology.specs.Lines.{NodeLines}
 use Rattle.shapes.specs.declared.counts.Counts.{Counts}
 use Rattle.shapes.specs.inner.ShortForms.{plain_parent_at}
-
-pub record Zeros (c : Counts) : Type 0 where
-  pub principals : c.principals ≡ zeros
-  pub secondaries : c.secondaries ≡ zeros
-  pub plains : c.plains ≡ zeros
-  pub bearers : c.bearers ≡ zeros
 
 -- these are the counts of the lines
 pub record Counted (L : NodeLines) (c : Counts) : Type 0 where

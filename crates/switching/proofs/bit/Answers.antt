@@ -1,7 +1,7 @@
 -- `switching::bit` meets its contract. A mask by 1 is the remainder by 2.
 -- Assumes nothing.
-use Prim.Native.Nat.{◌-◌, ◌/◌, ◌^◌}
-use lib.Bits.{and_mask}
+use Rattle.std.proofs.Common.{◌-◌, ◌/◌, ◌^◌}
+use Rattle.std.proofs.lemmas.Nat.{and_mask}
 use Rattle.switching.specs.inner.Settings.{bit_of}
 use Rattle.switching.proofs.bit.Goals as goal
 

@@ -1,13 +1,16 @@
--- `switching::start` meets its contract.
+-- `switching::start` meets its contract. Each column is filled with what its closure reads.
 -- Assumes nothing.
-use Rattle.switching.proofs.Starting.{counts_clear, started}
-use borrow.Author.Rules.{rules}
+use Rattle.std.proofs.Common.{ap, rules}
+use Rattle.finite.specs.Tables.{at}
+use Rattle.layout.specs.declared.tree.Tree.{Tree}
+use Rattle.switching.proofs.Starting.{started}
 use Rattle.switching.proofs.start.Goals as goal
 
 pub child_counts-requires : goal.child_counts-requires
-child_counts-requires c = let s = c.requires in
-    (s.0, search rules, search rules, counts_clear _ _ _ s.0 _ _ _ s.3 c.principal_parents.ensures c.ranks.ensures)
+child_counts-requires c = (c.args.lines.now.within.few_nodes, ap (λ (t : Tree). t.arcs) c.requires.2)
 
 pub returns : goal.returns
-returns c = let s = c.requires in
-    started _ _ _ s.0 s.1 s.2 s.3 c.principal_parents.ensures c.ranks.ensures c.child_counts.ensures
+returns c = started c.args.lines.now c.args.parts.now c.requires.1 c.requires.2
+    (c.fill.ensures (at c.args.lines.now.nodes.principal) (λ v r low high k. search rules))
+    (c.fill-2.ensures (at c.args.parts.now.rank) (λ v r low high k. search rules))
+    c.child_counts.ensures

@@ -1,17 +1,21 @@
 -- The goals of `count_of` that are left: see Invariants.antt for the idea.
+use Rattle.std.proofs.Common.{arith}
 use Rattle.finite.proofs.Count.{children_start, children_turn, children_done}
-use Rattle.tables.proofs.Columns.{spaced_in}
-use borrow.Author.Rules.{rules}
+use Rattle.tables.proofs.Passes.{entries_many, entry_is}
 use Rattle.tables.proofs.count_of.Goals as goal
 
-pub loop-v-init : goal.loop-v-init
-loop-v-init c = (search rules, search rules, children_start _ _)
+pub loop-p-init : goal.loop-p-init
+loop-p-init c = (omega arith, children_start _ _)
 
-pub spaced-requires : goal.spaced-requires
-spaced-requires c = spaced_in _ _ _ _ _ (search rules) c.requires.1
+pub overflow_add-count : goal.overflow_add-count
+overflow_add-count c = let e = entries_many c.args.n c.args.parents.now c.requires c.told-parents in
+    omega (arith, e, c.requires, c.loop-p.invariant.0, c.loop-p-test.true, c.one_if-count.ensures.1)
 
-pub loop-v-preserved : goal.loop-v-preserved
-loop-v-preserved c = (search rules, search rules, children_turn _ _ _ _ _ _ c.loop-v.invariant.2 c.spaced.ensures c.one_if-r.ensures.0)
+pub loop-p-preserved : goal.loop-p-preserved
+loop-p-preserved c = let e = entries_many c.args.n c.args.parents.now c.requires c.told-parents in
+    let i = c.loop-p.invariant in
+    (omega (arith, i.0, c.one_if-count.ensures.1), children_turn _ _ _ _ _ _ i.1 (entry_is c.args.n c.args.parents.now c.loop-p.p-index (omega (arith, e, c.loop-p-test.true))) c.one_if-count.ensures.0)
 
 pub returns : goal.returns
-returns c = (children_done _ _ _ _ _ c.loop-v.invariant.0 (search rules) c.loop-v.invariant.2, search rules)
+returns c = let e = entries_many c.args.n c.args.parents.now c.requires c.told-parents in
+    children_done _ _ c.args.n c.loop-p.p-index _ (omega (arith, e, c.loop-p.auto.p-index-end)) (omega (arith, e, c.loop-p-test.false)) c.loop-p.invariant.1

@@ -1,13 +1,9 @@
--- `tables::count_of` meets its contract. The invariant: r counts the children passed.
+-- `tables::count_of` meets its contract. The invariant: the entries passed are those of 1 to p-index, and the count is that of these.
 -- Assumes nothing.
-use Prim.Native.Nat.{◌-◌, ◌≤◌}
-use mathlib.Core.Path.{◌≡◌}
+use Rattle.std.proofs.Common.{◌≡◌, ◌≤◌}
 use Rattle.finite.specs.Range.{children}
-use Rattle.tables.specs.Columns.{spaced}
+use Rattle.finite.specs.Tables.{at}
 use Rattle.tables.proofs.count_of.Given as goal
 
-abbrev pub invariant-loop-v : goal.invariant-loop-v
-invariant-loop-v l = (l.v ≤ l.n) × (l.r ≤ l.v) × (l.r ≡ children l.v (spaced l.t l.b l.s) l.x)
-
-abbrev pub decreases-loop-v : goal.decreases-loop-v
-decreases-loop-v l = l.n - l.v
+abbrev pub invariant-loop-p : goal.invariant-loop-p
+invariant-loop-p l = (l.count ≤ l.p-index) × (l.count ≡ children l.p-index (at l.parents) l.x)

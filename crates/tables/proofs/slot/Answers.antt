@@ -1,6 +1,6 @@
 -- `tables::slot` meets its contract. Each return is one case of the definition.
 -- Assumes nothing.
-use borrow.Author.Rules.{rules}
+use Rattle.std.proofs.Common.{rules}
 use Rattle.tables.proofs.Nexts.{slots}
 use Rattle.tables.proofs.slot.Goals as goal
 

@@ -1,8 +1,7 @@
 -- Writing a line at a place: the part that was lent came back with the line at its front.
 -- Assumes nothing.
-use mathlib.Core.Path.{refl}
+use Rattle.std.proofs.Common.{refl, rules}
 use Rattle.columns.proofs.Writing.{lent}
-use borrow.Author.Rules.{rules}
 use Rattle.text_lines.proofs.append_line.Goals as goal
 
 pub returns : goal.returns

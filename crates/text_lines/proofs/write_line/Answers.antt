@@ -1,18 +1,13 @@
 -- The goals of `write_line` that are left: see Invariants.antt for the idea.
-use Prim.Native.Nat.{◌*◌}
-use mathlib.Core.Path.{refl}
+use Rattle.std.proofs.Common.{◌*◌, refl, rules}
 use Rattle.text_lines.specs.Lines.{fields_of}
 use Rattle.columns.proofs.Writing.{written_nil}
 use Rattle.text_lines.proofs.Lines.{write_turn, write_done}
-use borrow.Author.Rules.{rules}
 use Rattle.text_lines.proofs.write_line.Goals as goal
 
 pub loop-i-init : goal.loop-i-init
 unfolding fields_of
 loop-i-init c = written_nil _
-
-pub write_field-requires : goal.write_field-requires
-write_field-requires c = (search rules, c.requires.1.small c.loop-i.i)
 
 pub loop-i-preserved : goal.loop-i-preserved
 loop-i-preserved c = let l = c.loop-i in

@@ -1,10 +1,13 @@
--- The stages of filling the table of least costs, over what the code reads: the header, the lines of the sheet, the table of the genes and the arcs; the
--- words are those of the scratch.
+-- The stages of filling the table of least costs, over what the code reads: the lines of the sheet, the table of the genes and the arcs; the words are
+-- those of the scratch.
 -- Assumes nothing.
 use Rattle.std.specs.Prelude.{◌≡◌, ◌≢◌, List, ℕ, ◌-◌, ◌*◌, ◌≤◌, length}
+use Rattle.finite.specs.Tables.{at}
 use Rattle.layout.specs.declared.Header.{Header}
-use Rattle.layout.specs.Headers.{costs, WithinLimits}
-use Rattle.layout.specs.Lines.{gene_species, nodes_in, genes_in}
+use Rattle.layout.specs.declared.lines.Lines.{Lines}
+use Rattle.layout.specs.declared.genes.Genes.{Genes}
+use Rattle.layout.specs.Headers.{costs}
+use Rattle.layout.specs.Lines.{nodes_of, genes_of}
 use Rattle.layout.specs.inner.Genes.{left, right, gene_tree}
 use Rattle.histories.specs.Histories.{Family}
 use Rattle.histories.specs.Families.{family_of}
@@ -18,38 +21,41 @@ use Rattle.whole_network.specs.declared.Row.{Row}
 use Rattle.whole_network.specs.declared.Source.{Source}
 
 -- the gene family of a sheet
-abbrev pub family_in : Header → (lines genes : List ℕ) → Family
-family_in h lines genes = family_of (nodes_in h.nodes lines) (genes_in h.nodes h.genes lines) (gene_tree h.genes genes) (costs h)
+abbrev pub family_in : Lines → Genes → Family
+family_in l t = family_of (nodes_of l) (genes_of l) (gene_tree l.header.genes t) (costs l.header)
 
 -- no refusal applies to it
-abbrev pub AcceptedIn : Header → (lines genes : List ℕ) → Type 0
-AcceptedIn h lines genes = Accepted (nodes_in h.nodes lines) (genes_in h.nodes h.genes lines) (gene_tree h.genes genes) (costs h)
+abbrev pub AcceptedIn : Lines → Genes → Type 0
+AcceptedIn l t = Accepted (nodes_of l) (genes_of l) (gene_tree l.header.genes t) (costs l.header)
+
+-- the header of its lines
+abbrev pub header : Source → Header
+header f = f.lines.now.header
 
 -- the gene family that the table is filled for
 abbrev pub family : Source → Family
-family f = family_in f.header f.lines.now f.genes.now
+family f = family_in f.lines.now f.genes.now
 
 -- the table of the arcs has the family's arcs and an order in which to fill a row
 pub record Ready (f : Source) : Type 0 where
-  pub limits : WithinLimits f.header
   pub prepared : Prepared (family f) (order f.arcs)
-  pub outs : (v : ℕ) → 1 ≤ v → v ≤ f.header.nodes → (family f).out v ≡ leaving_in f.lines.now f.arcs v
+  pub outs : (v : ℕ) → 1 ≤ v → v ≤ (header f).nodes → (family f).out v ≡ leaving_in f.lines.now.nodes f.arcs v
 
 -- and the words s have room for the table
 pub record Filling (f : Source) (s : List ℕ) : Type 0 where
   pub ready : Ready f
-  pub room : f.header.genes * f.header.nodes ≤ length s
+  pub room : (header f).genes * (header f).nodes ≤ length s
 
 -- what the words of gene g depend on: of a leaf gene its species, of an inner gene where its children's rows begin
 abbrev pub KindOf : Source → ℕ → Kind → Type 0
-KindOf f g (Tip k) = (left f.genes.now g ≡ 0) × (k ≡ gene_species f.lines.now f.header.nodes g)
-KindOf f g (Pair a b) = (left f.genes.now g ≢ 0) × (a ≡ (left f.genes.now g - 1) * f.header.nodes) × (b ≡ (right f.genes.now g - 1) * f.header.nodes)
+KindOf f g (Tip k) = (left f.genes.now g ≡ 0) × (k ≡ at f.lines.now.genes.species g)
+KindOf f g (Pair a b) = (left f.genes.now g ≢ 0) × (a ≡ (left f.genes.now g - 1) * (header f).nodes) × (b ≡ (right f.genes.now g - 1) * (header f).nodes)
 
 -- the row of a gene
 pub record RowOf (f : Source) (row : Row) : Type 0 where
   pub low : 1 ≤ row.gene
-  pub high : row.gene ≤ f.header.genes
-  pub starts : row.start ≡ (row.gene - 1) * f.header.nodes
+  pub high : row.gene ≤ (header f).genes
+  pub starts : row.start ≡ (row.gene - 1) * (header f).nodes
   pub kind : KindOf f row.gene row.kind
 
 -- how far the words are those of the table, and that all others are as they were
@@ -67,5 +73,5 @@ pub record Next (f : Source) (s : List ℕ) (r : Row) (i : ℕ) : Type 0 where
   pub filling : Filling f s
   pub row : RowOf f r
   pub low : 1 ≤ i
-  pub high : i ≤ f.header.nodes
+  pub high : i ≤ (header f).nodes
   pub part : PartlyIn f s r.gene i

@@ -5,7 +5,7 @@ use Rattle.histories.proofs.Outs.{out_leaf, out_two, out_mixed, out_one}
 use Rattle.arcs.proofs.Arcs.out.Goals as goal
 
 pub returns-then-x-eq0 : goal.returns-then-x-eq0
-returns-then-x-eq0 c = rw c.node_species.ensures (sym (out_leaf _ _ _ _ c.if-x-eq0.true))
+returns-then-x-eq0 c = sym (out_leaf _ _ _ _ c.if-x-eq0.true)
 
 pub returns-then-y-ne0 : goal.returns-then-y-ne0
 returns-then-y-ne0 c = sym (out_two _ _ _ _ c.if-x-eq0.false c.if-y-ne0.true)

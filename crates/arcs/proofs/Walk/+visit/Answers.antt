@@ -10,22 +10,23 @@ pub visit-requires : goal.visit-requires
 visit-requires t c =
     let s = c.requires in
     let d = c.if-v-eq0.false in
-    (principal_falls _ _ _ s.1 d s.2 _ _ c.principal.ensures c.decreases, (s.0, principal_high _ _ _ s.1 d s.2 _ c.principal.ensures, s.2, s.3))
+    (principal_falls _ _ _ s.0 d s.1 _ c.decreases, (principal_high _ _ _ s.0 d s.1, s.1, s.2))
 
 pub visit-requires-2 : goal.visit-requires-2
 visit-requires-2 t c =
     let s = c.requires in
     let d = c.if-v-eq0.false in
-    (secondary_falls _ _ _ s.1 d s.2 _ _ c.secondary.ensures c.decreases, (s.0, secondary_high _ _ _ s.1 d s.2 _ c.secondary.ensures, s.2, c.visit.ensures.walked))
+    (secondary_falls _ _ _ s.0 d s.1 _ c.decreases, (secondary_high _ _ _ s.0 d s.1, s.1, c.visit.ensures.walked))
 
 pub append-requires : goal.append-requires
 unfolding network nodes_in
 append-requires t c =
     let s = c.requires in
-    (omega arith, λ e. omega (arith, room c.visit-2.ensures.walked (due _ _ _ s.1 c.if-v-eq0.false s.2 c.principal.ensures c.secondary.ensures c.visit.ensures c.visit-2.ensures) e))
+    let few = c.args.lines.now.within.few_nodes in
+    (omega (arith, few), λ e. omega (arith, few, room c.visit-2.ensures.walked (due _ _ c.args.lines.now.nodes s.0 c.if-v-eq0.false s.1 c.visit.ensures c.visit-2.ensures) e))
 
 pub returns : goal.returns
 returns t c =
     let s = c.requires in
     visited_then c.visit.ensures (visited_then c.visit-2.ensures (c.append.ensures _ c.visit-2.ensures.walked
-    (due _ _ _ s.1 c.if-v-eq0.false s.2 c.principal.ensures c.secondary.ensures c.visit.ensures c.visit-2.ensures)))
+    (due _ _ _ s.0 c.if-v-eq0.false s.1 c.visit.ensures c.visit-2.ensures)))

@@ -1,7 +1,7 @@
 -- The measure of a visit is the rank of the node, which the ranks of its parents are below.
 -- Assumes nothing.
-use Rattle.arcs.specs.inner.Arcs.{network_in}
+use Rattle.layout.specs.Lines.{network_of}
 use Rattle.arcs.proofs.Walk.+visit.Given as goal
 
 abbrev pub decreases-visit : goal.decreases-visit
-decreases-visit l = (network_in l.n l.lines.now).rank l.v
+decreases-visit l = (network_of l.lines.now).rank l.v

@@ -7,11 +7,11 @@ use Rattle.columns.proofs.Cursor.field.Goals as goal
 pub returns-then-s-lt6 : goal.returns-then-s-lt6
 returns-then-s-lt6 c = let a = c.args in field_told _ _ (short a.s.now a.self.at (search rules))
 
-pub returns-in-32 : goal.returns-in-32
-returns-in-32 c = field_told _ _ c.scan.ensures
+pub returns-then-starts_with : goal.returns-then-starts_with
+returns-then-starts_with c = field_told _ _ c.scan.ensures
 
-pub returns-in-32-2 : goal.returns-in-32-2
-returns-in-32-2 c = field_told _ _ c.scan-in-32-2.ensures
+pub returns-then-starts_with-2 : goal.returns-then-starts_with-2
+returns-then-starts_with-2 c = field_told _ _ c.scan-then-starts_with-2.ensures
 
-pub returns-in_default : goal.returns-in_default
-returns-in_default c = field_told _ _ c.scan-in_default.ensures
+pub returns-else-starts_with-2 : goal.returns-else-starts_with-2
+returns-else-starts_with-2 c = field_told _ _ c.scan-else-starts_with-2.ensures

@@ -1,10 +1,7 @@
 -- The goals of `non_tops` that are left: see Invariants.antt for the idea.
-use mathlib.Core.Path.{refl}
-use borrow.Author.Rules.{rules}
-use Rattle.finite.specs.Tables.{zeros}
+use Rattle.std.proofs.Common.{arith}
 use Rattle.components.proofs.Ways.{ways_none}
 use Rattle.components.proofs.climbs.non_tops.Goals as goal
 
 pub loop-v-init : goal.loop-v-init
-unfolding zeros
-loop-v-init c = (search rules, ways_none _ _ refl)
+loop-v-init c = (omega arith, ways_none _)

@@ -3,10 +3,10 @@ use Rattle.components.proofs.Ways.{top_end, up_less, up_kept}
 use Rattle.components.proofs.climbs.top_of.Goals as goal
 
 pub loop-a-smaller : goal.loop-a-smaller
-loop-a-smaller c = up_less _ _ _ c.requires.sound.0 c.requires.sound.1 _ _ c.loop-a.invariant c.principal-a.ensures
+loop-a-smaller c = up_less _ _ _ c.requires.sound.0 c.requires.sound.1 _ _ c.loop-a.invariant
 
 pub loop-a-preserved : goal.loop-a-preserved
-loop-a-preserved c = up_kept _ _ _ c.requires.sound.0 c.requires.sound.1 _ _ c.loop-a.invariant c.principal-a.ensures c.loop-a-test.true
+loop-a-preserved c = up_kept _ _ _ c.requires.sound.0 c.requires.sound.1 _ _ c.loop-a.invariant c.loop-a-test.true
 
 pub returns : goal.returns
 returns c = top_end _ _ _ c.requires.sound.0 c.requires.sound.1 _ _ c.loop-a.invariant c.loop-a-test.false

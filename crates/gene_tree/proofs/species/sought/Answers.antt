@@ -1,7 +1,6 @@
 -- The first of the nodes that bears the species.
 -- Assumes nothing.
-use mathlib.Core.Path.{◌∙◌}
-use borrow.Author.Rules.{rules}
+use Rattle.std.proofs.Common.{refl, ◌∙◌, rules}
 use Rattle.finite.specs.Tests.{same}
 use Rattle.finite.proofs.Upto.{first_upto}
 use Rattle.gene_tree.proofs.Reading.{sought_read}
@@ -9,4 +8,4 @@ use Rattle.gene_tree.proofs.species.sought.Goals as goal
 
 pub returns : goal.returns
 unfolding same
-returns c = c.unwrap_or.ensures ∙ sought_read _ _ _ _ (first_upto _ _ _ c.find.ensures.ran c.new.ensures.start c.new.ensures.end c.new.ensures.exhausted (λ x b q k. search rules))
+returns c = c.unwrap_or.ensures ∙ sought_read _ _ _ _ (first_upto _ _ _ c.find.ensures.ran refl (λ x b q k. search rules))

@@ -10,21 +10,22 @@ pub out-out-requires : goal.out-out-requires
 out-out-requires c = node_few c.requires
 
 pub tip_cost-requires : goal.tip_cost-requires
-tip_cost-requires c = (c.requires.filling.ready.limits, rw (row_part c.args.scratch.now c.args.row.start, c.out-out.ensures) (own_ends c.requires))
+tip_cost-requires c = (c.args.self.now.lines.now.within, rw (row_part c.args.scratch.now c.args.row.start, c.out-out.ensures) (own_ends c.requires))
 
-pub slice_bounds-inner_cost-count : goal.slice_bounds-inner_cost-count
-slice_bounds-inner_cost-count c = left_starts c.requires _ _ (rw c.in-Pair.is at c.requires.row.kind)
+pub slice_bounds-children-count : goal.slice_bounds-children-count
+slice_bounds-children-count c = left_starts c.requires _ _ (rw c.in-Pair.is at c.requires.row.kind)
 
-pub slice_bounds-inner_cost-count-in-Pair : goal.slice_bounds-inner_cost-count-in-Pair
-slice_bounds-inner_cost-count-in-Pair c = right_starts c.requires _ _ (rw c.in-Pair.is at c.requires.row.kind)
+pub slice_bounds-children-count-in-Pair : goal.slice_bounds-children-count-in-Pair
+slice_bounds-children-count-in-Pair c = right_starts c.requires _ _ (rw c.in-Pair.is at c.requires.row.kind)
 
 pub inner_cost-requires : goal.inner_cost-requires
-inner_cost-requires c = (
-  c.requires.filling.ready.limits,
-  rw (row_part c.args.scratch.now c.args.row.start, c.out-out.ensures) (own_ends c.requires),
-  rw (row_part c.args.scratch.now c.in-Pair.a, row_part c.args.scratch.now c.in-Pair.b, c.out-out.ensures)
-      (child_rows c.requires _ _ (rw c.in-Pair.is at c.requires.row.kind)),
-)
+inner_cost-requires c =
+    let rows = child_rows c.requires _ _ (rw c.in-Pair.is at c.requires.row.kind) in (
+      c.args.self.now.lines.now.within,
+      rw (row_part c.args.scratch.now c.args.row.start, c.out-out.ensures) (own_ends c.requires),
+      rw (row_part c.args.scratch.now c.in-Pair.a, row_part c.args.scratch.now c.in-Pair.b) rows.0,
+      rw (row_part c.args.scratch.now c.in-Pair.a, row_part c.args.scratch.now c.in-Pair.b, c.out-out.ensures) rows.1,
+    )
 
 pub returns-in-Tip : goal.returns-in-Tip
 returns-in-Tip c = rw (row_part c.args.scratch.now c.args.row.start, c.out-out.ensures) at c.tip_cost.ensures
@@ -37,11 +38,11 @@ returns-in-Pair c = rw (row_part c.args.scratch.now c.in-Pair.a, row_part c.args
 pub offset_bounds-scratch-a : goal.offset_bounds-scratch-a
 offset_bounds-scratch-a c = omega (arith, left_starts c.requires _ _ (rw c.in-Pair.is at c.requires.row.kind))
 
-pub slice_bounds-inner_cost-start : goal.slice_bounds-inner_cost-start
-slice_bounds-inner_cost-start c = left_starts c.requires _ _ (rw c.in-Pair.is at c.requires.row.kind)
+pub slice_bounds-children-start : goal.slice_bounds-children-start
+slice_bounds-children-start c = left_starts c.requires _ _ (rw c.in-Pair.is at c.requires.row.kind)
 
 pub offset_bounds-scratch-b : goal.offset_bounds-scratch-b
 offset_bounds-scratch-b c = omega (arith, right_starts c.requires _ _ (rw c.in-Pair.is at c.requires.row.kind))
 
-pub slice_bounds-inner_cost-start-in-Pair : goal.slice_bounds-inner_cost-start-in-Pair
-slice_bounds-inner_cost-start-in-Pair c = right_starts c.requires _ _ (rw c.in-Pair.is at c.requires.row.kind)
+pub slice_bounds-children-start-in-Pair : goal.slice_bounds-children-start-in-Pair
+slice_bounds-children-start-in-Pair c = right_starts c.requires _ _ (rw c.in-Pair.is at c.requires.row.kind)

@@ -1,13 +1,12 @@
 -- One node after the other.
 -- Assumes nothing.
-use mathlib.Core.Path.{◌∙◌}
-use borrow.Author.Rules.{rules}
+use Rattle.std.proofs.Common.{refl, ◌∙◌, rules}
 use Rattle.finite.proofs.Upto.{any_upto}
-use Rattle.layout.specs.Lines.{nodes_in}
+use Rattle.layout.specs.Lines.{nodes_in, nodes_of}
 use Rattle.shapes.specs.inner.ShortForms.{wrong_species_at}
 use Rattle.shapes.proofs.ShortForms.{wrong_iff}
 use Rattle.shapes.proofs.nodes.Shapes.nine.Goals as goal
 
 pub returns : goal.returns
 unfolding nodes_in
-returns c = any_upto _ (wrong_species_at (nodes_in c.args.self.now.n c.args.self.now.lines.now)) c.any.ensures.ran c.new.ensures.start c.new.ensures.end c.new.ensures.exhausted (λ x b q k. search rules) ∙ wrong_iff _
+returns c = any_upto _ (wrong_species_at (nodes_of c.args.self.now.lines.now)) c.any.ensures.ran refl (λ x b q k. search rules) ∙ wrong_iff _

@@ -1,9 +1,0 @@
--- The settings of one component. The invariant: the state is the machine's after the settings below `counter`; with none left the component is
--- finished.
--- Assumes nothing.
-use mathlib.Core.Path.{◌≡◌}
-use Rattle.search.specs.inner.Works.{ReachedIn, WorkingIn}
-use Rattle.search.proofs.component.Given as goal
-
-abbrev pub invariant-loop : goal.invariant-loop
-invariant-loop l = (l.stage.done ≡ l.initial.stage.done) × (l.stage.setting ≡ l.counter) × ReachedIn l.given l.work l.stage × WorkingIn l.given l.work

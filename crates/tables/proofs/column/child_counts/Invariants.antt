@@ -1,9 +1,0 @@
--- `tables::column::child_counts` meets its contract. The invariant: each entry of 1 to n counts the children passed.
--- Assumes nothing.
-use Rattle.std.proofs.Common.{◌-◌}
-use Rattle.tables.specs.Columns.{spaced}
-use Rattle.tables.proofs.Passes.{Counted}
-use Rattle.tables.proofs.column.child_counts.Given as goal
-
-abbrev pub invariant-loop-v : goal.invariant-loop-v
-invariant-loop-v l = Counted l.n (spaced l.t l.b l.s) (l.v - 1) l.out
