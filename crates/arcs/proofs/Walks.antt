@@ -8,18 +8,20 @@ use Rattle.finite.specs.Tests.{same, tally}
 use Rattle.finite.specs.Range.{sum, count}
 use Rattle.finite.specs.Tables.{at, zeros}
 use Rattle.finite.proofs.Cases.{by_eq}
-use Rattle.finite.proofs.Tests.{is_same, not_same, tally_le, not_no, not_yes, tally_no, tally_yes}
+use Rattle.std.proofs.lemmas.Bool.{not_from_true, not_from_false}
+use Rattle.finite.proofs.Tests.{is_same, not_same, tally_le, tally_no, tally_yes}
 use Rattle.finite.proofs.Sum.{sum_short, sum_point}
 use Rattle.finite.proofs.Count.{count_zero}
 use Rattle.finite.proofs.Tables.{zeros_long, zeros_at}
-use Rattle.topology.specs.Networks.{Network, Node, Sound}
-use Rattle.topology.specs.Lines.{network}
+use Rattle.topology.specs.Networks.{Network, Node}
+use Rattle.topology.specs.Lines.{network as of_lines}
 use Rattle.topology.proofs.Above.{fall_principal, fall_secondary}
-use Rattle.layout.specs.declared.lines.NodeColumns.{NodeColumns}
-use Rattle.layout.specs.Lines.{nodes_in}
+use Rattle.layout.specs.declared.lines.Lines.{Lines}
+use Rattle.layout.specs.declared.networks.SoundNetwork.{SoundNetwork}
+use Rattle.layout.specs.Lines.{nodes_in, network_of}
 use Rattle.layout.proofs.Numbered.{principal_in, secondary_in}
-use Rattle.histories.specs.inner.Grades.{Order}
 use Rattle.arcs.specs.declared.Walk.{Walk}
+use Rattle.arcs.specs.inner.Arcs.{Ordered}
 use Rattle.arcs.specs.inner.Walks.{order, place, Walked, Due, Visited}
 
 -- whether v stands
@@ -27,10 +29,10 @@ abbrev stands : Walk → ℕ → Bool
 stands w v = not (same (place w v) 0)
 
 is_standing : (w : Walk) (v : ℕ) → place w v ≢ 0 → tally (stands w v) ≡ 1
-is_standing w v d = tally_yes (stands w v) (not_yes (same (place w v) 0) (not_same d))
+is_standing w v d = tally_yes (stands w v) (not_from_false (same (place w v) 0) (not_same d))
 
 not_standing : (w : Walk) (v : ℕ) → place w v ≡ 0 → tally (stands w v) ≡ 0
-not_standing w v e = tally_no (stands w v) (not_no (same (place w v) 0) (is_same e))
+not_standing w v e = tally_no (stands w v) (not_from_true (same (place w v) 0) (is_same e))
 
 -- a node that has no place gets the next
 module _ {N : Network} {v : ℕ} {w : Walk} (W : Walked N w) (D : Due N v w) (new : place w v ≡ 0) where
@@ -85,6 +87,7 @@ module _ {N : Network} {v : ℕ} {w : Walk} (W : Walked N w) (D : Due N v w) (ne
       visits = λ u n d. by_eq u v
           (λ e. rw (e, place_here, order_here))
           (λ q. let s = stood u q d in rw (place_there u q) (order_there (place w u) (λ e. omega (arith, W.high u)) ∙ W.visits u n s));
+      elsewhere = λ u d. place_there u (λ e. d (rw e D.node)) ∙ W.elsewhere u d;
       high = λ u. by_eq u v (λ e. rw e (omega (arith, place_here))) (λ q. omega (arith, place_there u q, W.high u));
       node = λ i l h. by_eq i k (λ e. rw (e, order_here) D.node) (λ q. rw (order_there i q) (W.node i l (omega arith)));
       placed = λ i l h. by_eq i k
@@ -107,42 +110,45 @@ pub visited_then : {N : Network} {p v : ℕ} {w w₁ w₂ : Walk} → Visited N 
 visited_then A B = record { walked = B.walked; stands = B.stands; stay = λ u d. B.stay u (A.stay u d) }
 
 -- the parents of node v in the lines: they are nodes or 0, their rank is less, and once both are visited v is due
-module _ (n v : ℕ) (l : NodeColumns) (high : v ≤ n) (some : v ≢ 0) (ok : Sound (network (nodes_in n l))) where
+module _ (network : SoundNetwork) (v : ℕ) (high : v ≤ network.lines.now.header.nodes) (some : v ≢ 0) where
+  abbrev lines : Lines
+  lines = network.lines.now
+
   abbrev M : Network
-  M = network (nodes_in n l)
+  M = network_of lines
 
   node_v : Node M v
-  unfolding network nodes_in
+  unfolding of_lines nodes_in
   node_v = record { low = omega arith; high = high }
 
-  principal_is : M.principal v ≡ at l.principal v
-  unfolding network
-  principal_is = principal_in n l v (omega arith) high
+  principal_is : M.principal v ≡ at lines.nodes.principal v
+  unfolding of_lines
+  principal_is = principal_in lines.header.nodes lines.nodes v (omega arith) high
 
-  secondary_is : M.secondary v ≡ at l.secondary v
-  unfolding network
-  secondary_is = secondary_in n l v (omega arith) high
+  secondary_is : M.secondary v ≡ at lines.nodes.secondary v
+  unfolding of_lines
+  secondary_is = secondary_in lines.header.nodes lines.nodes v (omega arith) high
 
-  pub principal_high : at l.principal v ≤ n
-  unfolding network nodes_in
-  principal_high = rw principal_is at (ok.in_principal v node_v)
+  pub principal_high : at lines.nodes.principal v ≤ lines.header.nodes
+  unfolding of_lines nodes_in
+  principal_high = rw principal_is at (network.sound.in_principal v node_v)
 
-  pub secondary_high : at l.secondary v ≤ n
-  unfolding network nodes_in
-  secondary_high = rw secondary_is at (ok.in_secondary v node_v)
+  pub secondary_high : at lines.nodes.secondary v ≤ lines.header.nodes
+  unfolding of_lines nodes_in
+  secondary_high = rw secondary_is at (network.sound.in_secondary v node_v)
 
-  pub principal_falls : (t : ℕ) → M.rank v ≡ t → M.rank (at l.principal v) < t
-  principal_falls t q = rw (principal_is, q) at (fall_principal M ok v some)
+  pub principal_falls : (t : ℕ) → M.rank v ≡ t → M.rank (at lines.nodes.principal v) < t
+  principal_falls t q = rw (principal_is, q) at (fall_principal M network.sound v some)
 
-  pub secondary_falls : (t : ℕ) → M.rank v ≡ t → M.rank (at l.secondary v) < t
-  secondary_falls t q = by_eq (at l.secondary v) 0
-      (λ z. rw (← q, z, ok.rank_none) (ok.rank_some v some))
-      (λ d. rw (secondary_is, q) at (fall_secondary M ok v (λ z. d (sym secondary_is ∙ z))))
+  pub secondary_falls : (t : ℕ) → M.rank v ≡ t → M.rank (at lines.nodes.secondary v) < t
+  secondary_falls t q = by_eq (at lines.nodes.secondary v) 0
+      (λ z. rw (← q, z, network.sound.rank_none) (network.sound.rank_some v some))
+      (λ d. rw (secondary_is, q) at (fall_secondary M network.sound v (λ z. d (sym secondary_is ∙ z))))
 
-  pub due : {w w₁ w₂ : Walk} → Visited M (at l.principal v) w w₁ → Visited M (at l.secondary v) w₁ w₂ → Due M v w₂
+  pub due : {w w₁ w₂ : Walk} → Visited M (at lines.nodes.principal v) w w₁ → Visited M (at lines.nodes.secondary v) w₁ w₂ → Due M v w₂
   due A B = record {
     node = node_v;
-    principal = λ d. rw principal_is (B.stay (at l.principal v) (A.stands (λ z. d (principal_is ∙ z))));
+    principal = λ d. rw principal_is (B.stay (at lines.nodes.principal v) (A.stands (λ z. d (principal_is ∙ z))));
     secondary = λ d. rw secondary_is (B.stands (λ z. d (secondary_is ∙ z)));
   }
 
@@ -151,9 +157,10 @@ walked_none : {N : Network} {w : Walk} → w.order ≡ zeros → w.standing ≡ 
 walked_none {N} {w} a b c = record {
   order_long = rw a zeros_long;
   place_long = rw c zeros_long;
-  standing = b ∙ sym (count_zero N.size _ (λ v l u. not_no (same (place w v) 0) (is_same (none v))));
+  standing = b ∙ sym (count_zero N.size _ (λ v l u. not_from_true (same (place w v) 0) (is_same (none v))));
   visits = λ v n d. absurd (d (none v));
   high = λ v. omega (arith, none v);
+  elsewhere = λ v d. none v;
   node = λ i l h. absurd (omega arith);
   placed = λ i l h. absurd (omega arith);
   principal = λ v n d. absurd (d (none v));
@@ -183,16 +190,19 @@ count_all zero f h = refl
 count_all (suc k) f h = omega (arith, tally_yes (f (suc k)) (h (suc k) (omega arith) (omega arith)), count_all k f (λ v l u. h v l (omega arith)))
 
 -- where all have come, every place is taken
-pub come_all : {N : Network} {v : ℕ} {w : Walk} → N.size < v → Come N v w → Order N (order w)
+pub come_all : {N : Network} {v : ℕ} {w : Walk} → N.size < v → Come N v w → Ordered N (order w)
 come_all {N} {v} {w} l C = record {
-  place = place w;
-  place_low = λ u n. omega (arith, some u n);
-  place_high = λ u n. omega (arith, full, W.high u);
-  visits = λ u n. W.visits u n (some u n);
-  node = λ i a b. W.node i a (omega (arith, full));
-  placed = λ i a b. W.placed i a (omega (arith, full));
-  principal = λ u n d. (W.principal u n (some u n) d).1;
-  secondary = λ u n d. (W.secondary u n (some u n) d).1;
+  places = record {
+    place = place w;
+    place_low = λ u n. omega (arith, some u n);
+    place_high = λ u n. omega (arith, full, W.high u);
+    visits = λ u n. W.visits u n (some u n);
+    node = λ i a b. W.node i a (omega (arith, full));
+    placed = λ i a b. W.placed i a (omega (arith, full));
+    principal = λ u n d. (W.principal u n (some u n) d).1;
+    secondary = λ u n d. (W.secondary u n (some u n) d).1;
+  };
+  elsewhere = W.elsewhere;
 }
   where
     W : Walked N w
@@ -202,4 +212,4 @@ come_all {N} {v} {w} l C = record {
     some u n = C.stand u n.low (omega (arith, n.high))
 
     full : w.standing ≡ N.size
-    full = W.standing ∙ count_all N.size _ (λ u a b. not_yes (same (place w u) 0) (not_same (some u (record { low = a; high = b }))))
+    full = W.standing ∙ count_all N.size _ (λ u a b. not_from_false (same (place w u) 0) (not_same (some u (record { low = a; high = b }))))

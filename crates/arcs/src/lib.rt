@@ -4,14 +4,14 @@
 
 ghost use Rattle.std.specs.Prelude.{◌≡◌, ◌≤◌};
 ghost use Rattle.finite.specs.Tables.{at};
-ghost use Rattle.topology.specs.Networks.{Network, Sound};
+ghost use Rattle.topology.specs.Networks.{Network};
 ghost use Rattle.layout.specs.Lines.{nodes_of, network_of};
-ghost use Rattle.histories.specs.inner.Grades.{Order};
-ghost use Rattle.arcs.specs.inner.Arcs.{leaving, leaving_in, Laid};
+ghost use Rattle.arcs.specs.inner.Arcs.{leaving, leaving_in, Ordered, Laid};
 ghost use Rattle.arcs.specs.inner.Walks.{place, Walked, Due, Visited};
 
 use layout::lines::Lines;
-use tables::{Column, next_children};
+use layout::networks::SoundNetwork;
+use tables::{Column, ZEROS, next_children};
 
 #[derive(Clone, Copy)]
 pub struct Arcs {
@@ -77,9 +77,9 @@ impl Walk {
     }
 
     // Node v comes into the order, after its parents and theirs; what is no node does not.
-    fn visit(&mut self, v: usize, lines: &Lines)
-        requires { (v ≤ lines.now.header.nodes) × Sound (network_of lines.now) × Walked (network_of lines.now) self.old }
-        ensures { Visited (network_of lines.now) v self.old self.new }
+    fn visit(&mut self, v: usize, network: SoundNetwork)
+        requires { (v ≤ network.lines.now.header.nodes) × Walked (network_of network.lines.now) self.old }
+        ensures { Visited (network_of network.entry.lines.now) v self.old self.new }
     {
         if v == 0 {
             return;
@@ -87,44 +87,42 @@ impl Walk {
         if self.place[v] != 0 {
             return;
         }
-        self.visit(lines.nodes.principal[v] as usize, lines);
-        self.visit(lines.nodes.secondary[v] as usize, lines);
+        self.visit(network.lines.nodes.principal[v] as usize, network);
+        self.visit(network.lines.nodes.secondary[v] as usize, network);
         self.append(v);
     }
 }
 
 // The nodes in an order in which each comes after its parents.
-fn order_nodes(lines: &Lines) -> Column
-    requires { Sound (network_of lines.now) }
-    ensures { Order (network_of lines.now) (at result) }
+fn order_nodes(network: SoundNetwork) -> Column
+    ensures { Ordered (network_of network.entry.lines.now) (at result) }
 {
     let mut walk = Walk {
-        order: [0; 128],
+        order: ZEROS,
         standing: 0,
-        place: [0; 128],
+        place: ZEROS,
     };
-    for v in 1..=lines.header.nodes {
-        walk.visit(v, lines);
+    for v in 1..=network.lines.header.nodes {
+        walk.visit(v, network);
     }
     walk.order
 }
 
-// The arcs of the network that the lines describe. Above zeros the next child is the lowest.
-pub fn lay(lines: &Lines) -> Arcs
-    requires { Sound (network_of lines.now) }
-    ensures { Laid (nodes_of lines.now) result }
+// The arcs of a network. Above zeros the next child is the lowest.
+#[tactic(auto, unfolding(finite::specs::Tables::zeros))]
+pub fn lay(network: SoundNetwork) -> Arcs
+    ensures { Laid (nodes_of network.entry.lines.now) result }
 {
-    let n = lines.header.nodes;
-    let nodes = &lines.nodes;
-    let zeros = [0; 128];
+    let n = network.lines.header.nodes;
+    let nodes = &network.lines.nodes;
     let mut arcs = Arcs {
-        order: order_nodes(lines),
-        first: zeros,
-        second: zeros,
-        other: zeros,
+        order: order_nodes(network),
+        first: ZEROS,
+        second: ZEROS,
+        other: ZEROS,
     };
-    next_children(n, &nodes.principal, &zeros, &mut arcs.first);
+    next_children(n, &nodes.principal, &ZEROS, &mut arcs.first);
     next_children(n, &nodes.principal, &arcs.first, &mut arcs.second);
-    next_children(n, &nodes.secondary, &zeros, &mut arcs.other);
+    next_children(n, &nodes.secondary, &ZEROS, &mut arcs.other);
     arcs
 }

@@ -1,7 +1,7 @@
 -- Sums of words: what is computed on words is what the definitions compute on costs, for the word for no history is the highest, and a sum that it
 -- enters is no lower.
 -- Assumes nothing.
-use Rattle.std.proofs.Common.{◌≡◌, refl, sym, ap, ◌∙◌, ◌≢◌, List, ℕ, ◌+◌, ◌-◌, ◌≤◌, ◌<◌, min, get_or, length, take, drop, length-drop, take_all, arith}
+use Rattle.std.proofs.Common.{◌≡◌, refl, sym, ap, ◌∙◌, ◌≢◌, List, ℕ, ◌+◌, ◌-◌, ◌≤◌, ◌<◌, min, get_or, arith}
 use mathlib.Core.Option.{none, some}
 use Rattle.std.specs.Prelude.{Result, Ok, Err}
 use Rattle.std.specs.Result.{OkIff, result_unwrap_or}
@@ -92,7 +92,3 @@ leads_both P Q (leaf s) p q = tt
 leads_both P Q (one x) p q = (p, q)
 leads_both P Q (two x y) p q = ((p.0, q.0), (p.1, q.1))
 leads_both P Q (mixed x y) p q = ((p.0, q.0), (p.1, q.1))
-
--- a part lent from a row's start on is the row
-pub row_part : (s : List ℕ) (r : ℕ) → take (length s - r) (drop r s) ≡ drop r s
-row_part s r = take_all (length s - r) (drop r s) (omega (arith, length-drop r s))

@@ -1,8 +1,5 @@
 // One word of the table of least costs: a gene's at a node, from the words of its own row at the nodes that the arcs out lead to and of its children's
 // rows there and at the node itself. A row is the words from its first on.
-//
-// The scratch has 4,294,967,295 for no history, the highest word: words are added as `usize`, and a sum from this word on stands for none, so that no word is
-// told apart before it is added, which is faster.
 #![tactic(auto)]
 
 ghost use Rattle.std.specs.Prelude.{◌≡◌, ◌+◌, ◌≤◌, length};
@@ -17,12 +14,16 @@ ghost use Rattle.cell_costs.specs.inner.Costs.{cost_in, left_cost, right_cost, B
 use arcs::Out;
 use layout::Header;
 
-// The word of a cost.
+// The word for no history, which the rules give: the highest, so that the least word is that of the least cost. Words are added as `usize`, and a sum from this
+// word on stands for none. (As an Option no history would be the least of all, and would be told apart at each sum.)
+const NO_HISTORY: u32 = u32::MAX;
+
+// The word of a cost: the library's `try_from`, under the name by which the laws cite it.
 #[tactic(auto, using(crate::proofs::Sums::clip))]
 pub fn clipped(c: usize) -> u32
     ensures { cost_of result ≡ cost_in c }
 {
-    u32::try_from(c).unwrap_or(u32::MAX)
+    u32::try_from(c).unwrap_or(NO_HISTORY)
 }
 
 // An event of cost c, then the history of the gene with this row from v on.
@@ -41,7 +42,7 @@ fn rest(gene_species: usize, node_species: usize) -> usize
     if gene_species == node_species {
         0
     } else {
-        u32::MAX as usize
+        NO_HISTORY as usize
     }
 }
 
@@ -79,22 +80,13 @@ impl Children<'_> {
     }
 }
 
-// The gene with the row g goes down one of two principal arcs, to x and y, with a loss.
+// The gene with this row moves on along one of two arcs: to u, for a cost c, or to v, for a cost d.
 #[tactic(auto, using(crate::proofs::Sums::lesser_of))]
-fn lost(g: &[u32], l: usize, x: usize, y: usize) -> usize
-    requires { (l ≤ 99) × Cell g.now x × Cell g.now y }
-    ensures { cost_in result ≡ (then l (cost_at g.now x) lesser then l (cost_at g.now y)) }
+fn onward(row: &[u32], c: usize, u: usize, d: usize, v: usize) -> usize
+    requires { (c ≤ 198) × (d ≤ 198) × Cell row.now u × Cell row.now v }
+    ensures { cost_in result ≡ (then c (cost_at row.now u) lesser then d (cost_at row.now v)) }
 {
-    after(g, l, x).min(after(g, l, y))
-}
-
-// It goes along the secondary arc to z with a transfer and a loss, or down the only principal arc, to x, free.
-#[tactic(auto, using(crate::proofs::Sums::lesser_of))]
-fn carried(g: &[u32], t: usize, l: usize, x: usize, z: usize) -> usize
-    requires { (t ≤ 99) × (l ≤ 99) × Cell g.now x × Cell g.now z }
-    ensures { cost_in result ≡ (then (t + l) (cost_at g.now z) lesser then 0 (cost_at g.now x)) }
-{
-    after(g, t + l, z).min(after(g, 0, x))
+    after(row, c, u).min(after(row, d, v))
 }
 
 // The least cost of a leaf gene of this species, with the row g, at a node with these arcs out: it rests, or it moves on.
@@ -103,11 +95,13 @@ pub fn tip_cost(h: Header, g: &[u32], species: usize, out: Out) -> usize
     requires { WithinLimits h × Leads (Cell g.now) (leaving out) }
     ensures { cost_in result ≡ tip_cost h.transfer h.loss species (cost_at g.now) (leaving out) }
 {
+    let t = h.transfer as usize;
+    let l = h.loss as usize;
     match out {
         Out::Leaf(node_species) => rest(species, node_species),
         Out::One(x) => after(g, 0, x),
-        Out::Two(x, y) => lost(g, h.loss as usize, x, y),
-        Out::Mixed(x, z) => carried(g, h.transfer as usize, h.loss as usize, x, z),
+        Out::Two(x, y) => onward(g, l, x, l, y),
+        Out::Mixed(x, z) => onward(g, t + l, z, 0, x),
     }
 }
 
@@ -123,10 +117,12 @@ pub fn inner_cost(h: Header, children: Children, g: &[u32], v: usize, out: Out) 
     match out {
         Out::Leaf(_) => here,
         Out::One(x) => here.min(after(g, 0, x)),
-        Out::Two(x, y) => here.min(children.parted(0, x, y)).min(lost(g, l, x, y)),
+        Out::Two(x, y) => here
+            .min(children.parted(0, x, y))
+            .min(onward(g, l, x, l, y)),
         Out::Mixed(x, z) => here
             .min(children.transferred(t, v, x, z))
-            .min(carried(g, t, l, x, z)),
+            .min(onward(g, t + l, z, 0, x)),
     }
 }
 
@@ -135,5 +131,5 @@ pub fn least_start(n: usize, scratch: &[u32]) -> u32
     requires { n ≤ length scratch.now }
     ensures { cost_of result ≡ least_over n (row n scratch.now 1) }
 {
-    scratch[..n].iter().copied().min().unwrap_or(u32::MAX)
+    scratch[..n].iter().copied().min().unwrap_or(NO_HISTORY)
 }

@@ -14,14 +14,11 @@ use Rattle.columns.proofs.Columns.{columns_are, length_columns, six_at, six_colu
 pub digit_byte : (d : ℕ) → d < 10 → digit_of (48 + d) ≡ d
 digit_byte d h = simp (le-ltb (48 + d) 48 (omega arith), le-ltb 57 (48 + d) (omega arith)) (omega arith)
 
-pub mod_ten : (x : ℕ) → x % 10 < 10
-mod_ten x = omega arith
-
 -- a column counts for its digit, also where it is a space
 pub column_digit : (n p : ℕ) → digit_of (cond (ltb n p) 32 (48 + n / p % 10)) ≡ n / p % 10
 column_digit n p = by_bool (ltb n p)
     (λ e. let z : n / p ≡ 0 = div-eq_of_lt (ltb-true n p e) in rw (e, z))
-    (λ e. rw e (digit_byte (n / p % 10) (mod_ten (n / p))))
+    (λ e. rw e (digit_byte (n / p % 10) (omega arith)))
 
 -- a number from its quotients and digits, as variables
 joined : (n a b c d e f x y z u v : ℕ) → n ≡ a * 10 + f → a ≡ b * 10 + v → b ≡ c * 10 + u → c ≡ d * 10 + z → d ≡ e * 10 + y → e ≡ x
@@ -30,7 +27,7 @@ joined n a b c d e f x y z u v h₁ h₂ h₃ h₄ h₅ h₆ = omega arith
 
 -- reading back what is written gives the number
 pub read_back : (n : ℕ) → n < 1000000 → worth_of (columns n) 6 ≡ n
-read_back n h = rw (columns_are n h) (simp (column_digit n 100000, column_digit n 10000, column_digit n 1000, column_digit n 100, column_digit n 10, digit_byte (n / 1 % 10) (mod_ten (n / 1)))
+read_back n h = rw (columns_are n h) (simp (column_digit n 100000, column_digit n 10000, column_digit n 1000, column_digit n 100, column_digit n 10, digit_byte (n / 1 % 10) (omega arith))
     (joined n (n / 10) (n / 100) (n / 1000) (n / 10000) (n / 100000) (n / 1 % 10) (n / 100000 % 10) (n / 10000 % 10) (n / 1000 % 10) (n / 100 % 10) (n / 10 % 10)
     (omega arith) (omega arith) (omega arith) (omega arith) (omega arith) (omega arith)))
 

@@ -1,15 +1,16 @@
 -- Six bytes that fit column by column are the columns of what they are worth (`all_fit`), and the columns of a number fit (`columns_fit`), so that
 -- a byte that does not fit leaves no number (`misfit`). Each column is met by its place value: the digits before it, it, and what is behind.
 -- Assumes nothing.
-use Rattle.std.proofs.Common.{ℕ, zero, suc, ◌+◌, ◌-◌, ◌*◌, ◌/◌, ◌%◌, ◌≤◌, ◌<◌, ◌≡◌, refl, sym, ◌∙◌, true, false, cond, List, [], ◌∷◌, length, get_or, ltb, eqb, lit<, mul-le-mul_right, one-mul, arith, ltb-false, eqb-true, lt-ltb, le-ltb, ne_eqb}
-use native.Mathlib.Nat.{div-eq_of_lt, div-div-eq-div-mul, mul-add-div_right}
+use Rattle.std.proofs.Common.{ℕ, zero, suc, ◌+◌, ◌-◌, ◌*◌, ◌/◌, ◌%◌, ◌≤◌, ◌<◌, ◌≡◌, refl, sym, ap, ◌∙◌, true, false, cond, List, [], ◌∷◌, length, get_or, ltb, eqb, lit<, mul-le-mul_right, one-mul, arith, ltb-false, eqb-true, lt-ltb, le-ltb, ne_eqb}
+use native.Mathlib.Nat.{add-mul, mul_assoc, mul_comm, div-eq_of_lt, div-div-eq-div-mul, mul-add-div_right}
+use Rattle.std.proofs.lemmas.Nat.{le-div}
 use borrow.Author.Tests.{eqb-false}
 use Rattle.finite.proofs.Cases.{by_bool, by_eq, by_less, clash}
 use Rattle.columns.specs.Fields.{columns, place_value, column_of, digit_of, worth_of, six, field_at}
 use Rattle.columns.specs.inner.Scans.{Blank, digit, opening, fitting}
 use Rattle.std.specs.Prelude.{Some, None}
 use Rattle.columns.proofs.Columns.{columns_are, below_six, space, shown, six_at, term_bound}
-use Rattle.columns.proofs.Fields.{digit_small, mod_ten, column_digit, spelled_columns, found, agrees, only_field, worth_bound, worth_turn}
+use Rattle.columns.proofs.Fields.{digit_small, column_digit, spelled_columns, found, agrees, only_field, worth_bound, worth_turn}
 
 -- what a digit, and an opening byte, is
 digit_is : {A : Type 0} (b : ℕ) → digit b ≡ true → (48 ≤ b → b ≤ 57 → A) → A
@@ -110,59 +111,37 @@ digit_fits x w k h first = by_bool (eqb w 0)
 column_fits : (n p w k : ℕ) → (k ≡ 0 → ⊥) → (n < p → w ≡ 0) → (p ≤ n → w ≡ 0 → 1 ≤ n / p % 10) → fitting (cond (ltb n p) 32 (48 + n / p % 10)) w k ≡ true
 column_fits n p w k inner before first = by_less n p
     (λ l. rw (lt-ltb n p l, before l) (space_fits k inner))
-    (λ l. rw (le-ltb n p l) (digit_fits (n / p % 10) w k (mod_ten (n / p)) (λ z _. first l z)))
+    (λ l. rw (le-ltb n p l) (digit_fits (n / p % 10) w k (omega arith) (λ z _. first l z)))
 
--- what the columns of a number before a place are worth: the number cut off there, one digit more at each
-cut_next : (n p q w : ℕ) → (a : ℕ) → n / p ≡ a → n / q ≡ a / 10 → w ≡ n / q * q → w + n / p % 10 * p ≡ a / 10 * q + a % 10 * p
-cut_next n p q w a e f g = rw (g, e, f)
+-- the number cut off before a place, and with the digit of that place: what its columns so far are worth, one digit more at each
+parts : (a d p : ℕ) → a * (p * 10) + d * p ≡ (a * 10 + d) * p
+parts a d p = rw (add-mul, mul_assoc, mul_comm p 10)
+
+cut : (n p q : ℕ) → q ≡ p * 10 → n / q * q + n / p % 10 * p ≡ n / p * p
+cut n p q e = rw (e, ← div-div-eq-div-mul n p 10) (parts (n / p / 10) (n / p % 10) p ∙ ap (λ (x : ℕ). x * p) (omega arith))
+
+-- the column of a place fits after those before it
+cut_fits : (n p q k : ℕ) → q ≡ p * 10 → 0 < p → (k ≡ 0 → ⊥) → fitting (cond (ltb n p) 32 (48 + n / p % 10)) (n / q * q) k ≡ true
+cut_fits n p q k e pos inner = rw (e, ← div-div-eq-div-mul n p 10) (column_fits n p (n / p / 10 * (p * 10)) k inner
+    (λ l. let z : n / p ≡ 0 = div-eq_of_lt l in rw z (omega arith))
+    (λ l z. let some : 1 ≤ n / p = le-div 1 n p pos (rw one-mul l) in by_eq (n / p / 10) 0 (λ f. omega arith)
+    (λ f. let m : 1 * (p * 10) ≤ n / p / 10 * (p * 10) = mul-le-mul_right (p * 10) (omega arith) in absurd (omega (arith, rw one-mul at m)))))
 
 module _ (n : ℕ) (h : n < 1000000) where
-  abbrev w₁ : ℕ
-  w₁ = 0 + n / 100000 % 10 * 100000
-
-  abbrev w₂ : ℕ
-  w₂ = w₁ + n / 10000 % 10 * 10000
-
-  abbrev w₃ : ℕ
-  w₃ = w₂ + n / 1000 % 10 * 1000
-
-  abbrev w₄ : ℕ
-  w₄ = w₃ + n / 100 % 10 * 100
-
-  cut₁ : w₁ ≡ n / 100000 * 100000
-  cut₁ = omega arith
-
-  cut₂ : w₂ ≡ n / 10000 * 10000
-  cut₂ = cut_next n 10000 100000 w₁ (n / 10000) refl (sym (div-div-eq-div-mul n 10000 10)) cut₁ ∙ omega arith
-
-  cut₃ : w₃ ≡ n / 1000 * 1000
-  cut₃ = cut_next n 1000 10000 w₂ (n / 1000) refl (sym (div-div-eq-div-mul n 1000 10)) cut₂ ∙ omega arith
-
-  cut₄ : w₄ ≡ n / 100 * 100
-  cut₄ = cut_next n 100 1000 w₃ (n / 100) refl (sym (div-div-eq-div-mul n 100 10)) cut₃ ∙ omega arith
-
-  fit₁ : fitting (column_of n 4) w₁ 4 ≡ true
-  fit₁ = column_fits n 10000 w₁ 4 (λ q. omega arith) (λ l. omega (arith, cut₁)) (λ l z. omega (arith, cut₁))
-
-  fit₂ : fitting (column_of n 3) w₂ 3 ≡ true
-  fit₂ = column_fits n 1000 w₂ 3 (λ q. omega arith) (λ l. omega (arith, cut₂)) (λ l z. omega (arith, cut₂))
-
-  fit₃ : fitting (column_of n 2) w₃ 2 ≡ true
-  fit₃ = column_fits n 100 w₃ 2 (λ q. omega arith) (λ l. omega (arith, cut₃)) (λ l z. omega (arith, cut₃))
-
-  fit₄ : fitting (column_of n 1) w₄ 1 ≡ true
-  fit₄ = column_fits n 10 w₄ 1 (λ q. omega arith) (λ l. omega (arith, cut₄)) (λ l z. omega (arith, cut₄))
+  first : 0 + n / 100000 % 10 * 100000 ≡ n / 100000 * 100000
+  first = omega arith
 
   pub columns_fit : (k : ℕ) → k < 6 → fitting (get_or (columns n) k 0) (worth_of (columns n) k) (5 - k) ≡ true
   columns_fit = rw (columns_are n h) (below_six
       (λ k. fitting (get_or (column_of n 5 ∷ column_of n 4 ∷ column_of n 3 ∷ column_of n 2 ∷ column_of n 1 ∷ column_of n 0 ∷ []) k 0)
       (worth_of (column_of n 5 ∷ column_of n 4 ∷ column_of n 3 ∷ column_of n 2 ∷ column_of n 1 ∷ column_of n 0 ∷ []) k) (5 - k) ≡ true)
       (column_fits n 100000 0 5 (λ q. omega arith) (λ l. refl) (λ l z. omega arith))
-      (rw (column_digit n 100000) fit₁)
-      (rw (column_digit n 100000, column_digit n 10000) fit₂)
-      (rw (column_digit n 100000, column_digit n 10000, column_digit n 1000) fit₃)
-      (rw (column_digit n 100000, column_digit n 10000, column_digit n 1000, column_digit n 100) fit₄)
-      (digit_fits (n / 1 % 10) _ 0 (mod_ten (n / 1)) (λ t last. absurd (last refl))))
+      (rw (column_digit n 100000, first) (cut_fits n 10000 100000 4 refl (lit< tt) (λ q. omega arith)))
+      (rw (column_digit n 100000, column_digit n 10000, first, cut n 10000 100000 refl) (cut_fits n 1000 10000 3 refl (lit< tt) (λ q. omega arith)))
+      (rw (column_digit n 100000, column_digit n 10000, column_digit n 1000, first, cut n 10000 100000 refl, cut n 1000 10000 refl) (cut_fits n 100 1000 2 refl (lit< tt) (λ q. omega arith)))
+      (rw (column_digit n 100000, column_digit n 10000, column_digit n 1000, column_digit n 100, first, cut n 10000 100000 refl, cut n 1000 10000 refl, cut n 100 1000 refl)
+      (cut_fits n 10 100 1 refl (lit< tt) (λ q. omega arith)))
+      (digit_fits (n / 1 % 10) _ 0 (omega arith) (λ t last. absurd (last refl))))
 
 -- a byte that does not fit leaves no number
 pub misfit : (s : List ℕ) (at i : ℕ) → i < 6 → fitting (get_or s (at + i) 0) (worth_of (six s at) i) (5 - i) ≡ false → None ≡ field_at s at

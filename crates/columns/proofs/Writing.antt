@@ -1,8 +1,8 @@
 -- Writing into the front of a part that is lent. A loop keeps what is written so far, then the rest as it was (`written`); a part `&mut d[at..]`
 -- that comes back written is the whole written at `at` (`lent`), and writing twice one after the other is writing both (`put_written`).
 -- Assumes nothing.
-use Rattle.std.proofs.Common.{ℕ, suc, ◌+◌, ◌-◌, ◌≤◌, ◌<◌, ◌≡◌, refl, sym, ap, ◌∙◌, List, [], ◌∷◌, ◌++◌, append_assoc, append-nil, length, get_or, take, drop, set, replicate, length-append, length-drop, take-append-drop, drop_of_length-le, take_at, drop_at, take_all, drop-drop, length-take-le, get_or-drop, add-one, arith, lt-ltb}
-use lib.Seq.{paste, paste-zero, paste-suc, set_split}
+use Rattle.std.proofs.Common.{ℕ, suc, ◌+◌, ◌-◌, ◌≤◌, ◌<◌, ◌≡◌, refl, sym, ap, ◌∙◌, List, [], ◌++◌, append_assoc, append-nil, length, get_or, take, drop, set, replicate, length-append, length-drop, take-append-drop, drop_of_length-le, take_at, drop_at, take_all, drop-drop, length-take-le, get_or-drop, arith, lt-ltb}
+use lib.Seq.{paste, paste-suc}
 use borrow.Rule.Slice.PartMut.{put_mid}
 use Rattle.columns.specs.Fields.{columns, column_of}
 use Rattle.columns.specs.inner.Scans.{front_count}
@@ -27,10 +27,6 @@ pub length_written : (d bs : List ℕ) → length bs ≤ length d → length (wr
 unfolding written
 length_written d bs h = length-append bs (drop (length bs) d) ∙ omega (arith, length-drop (length bs) d)
 
-pub length_put : (d : List ℕ) (at : ℕ) (bs : List ℕ) → at + length bs ≤ length d → length (put d at bs) ≡ length d
-unfolding put
-length_put d at bs h = rw (length-append, length_written (drop at d) bs (simp length-drop (omega arith)), length-take-le at d (omega arith), length-drop) (omega arith)
-
 -- one piece after another: the law of everything that writes lines one after the other
 pub put_written : (d p bs : List ℕ) (at : ℕ) → at ≡ length p → put (written d p) at bs ≡ written d (p ++ bs)
 unfolding put written
@@ -43,11 +39,6 @@ put_put d at next p bs h e =
     let l : length (take at d ++ p) ≡ next = length-append (take at d) p ∙ rw (length-take-le at d h) (sym e) in
     rw (f, take_at (take at d ++ p) (drop (length p) (drop at d)) next l, drop_at (take at d ++ p) (drop (length p) (drop at d)) next l, drop-drop, length-append)
     (simp append_assoc)
-
--- one element more, behind the others
-set_put : (x : List ℕ) (k n : ℕ) → k < length x → set x k n ≡ put x k (n ∷ [])
-unfolding put written
-set_put x k n h = set_split x k n h ∙ rw (drop-drop, add-one)
 
 -- a part from `at` to the end that comes back with bs written: the whole has bs put at `at`
 pub lent : (d e : List ℕ) (at : ℕ) (bs : List ℕ) → at ≤ length d
@@ -67,9 +58,6 @@ paste_turn d out bs at j i r ei room h eo er = rw (ei, eo, er) (paste-suc d at b
 pub paste_done : (d out bs : List ℕ) (at j : ℕ) → j ≡ length bs → out ≡ paste d at bs j → out ≡ put d at bs
 unfolding put written
 paste_done d out bs at j e eo = rw (eo, e, take_all (length bs) bs (omega arith), ← drop-drop (length bs) at d) (append_assoc (take at d) bs (drop (length bs) (drop at d)))
-
-pub columns_none : (d bs : List ℕ) (first : ℕ) → d ≡ paste d first bs (first - first)
-columns_none d bs first = let e : first - first ≡ 0 = omega arith in rw e (paste-zero d first bs)
 
 pub columns_turn : (d out : List ℕ) (n first i r : ℕ) → 6 ≤ length d → n < 1000000 → first ≤ i → i < 6 → out ≡ paste d first (drop first (columns n)) (i - first) → r ≡ column_of n (5 - i)
     → set out i r ≡ paste d first (drop first (columns n)) (i + 1 - first)

@@ -8,20 +8,22 @@ use Rattle.finite.specs.Tests.{under, tally}
 use Rattle.finite.specs.Range.{count, any}
 use Rattle.finite.specs.Tables.{at, zeros, filled}
 use Rattle.finite.proofs.Cases.{by_eq, by_bool}
-use Rattle.finite.proofs.Tests.{is_under, not_under, and_no_r}
+use Rattle.std.proofs.lemmas.Bool.{and_right}
+use Rattle.finite.proofs.Tests.{is_under, not_under}
 use Rattle.finite.proofs.Sum.{sum_zero_range, sum_suc}
 use Rattle.finite.proofs.Count.{count_same, count_le, count_start, count_turn}
 use Rattle.finite.proofs.Every.{some_same}
 use Rattle.finite.proofs.Tables.{filled_in, filled_out, filled_zero, zeros_long, zeros_at}
 use Rattle.topology.specs.Networks.{Network, Node, Sound, Reticulation}
 use Rattle.topology.specs.Components.{component, member_of, reticulation_count, index_of}
-use Rattle.topology.specs.Lines.{network}
+use Rattle.topology.specs.Lines.{network as of_lines}
 use Rattle.topology.proofs.Lines.{rank_none, rank_is as lines-rank}
 use Rattle.topology.proofs.Above.{reticulation_node}
 use Rattle.topology.proofs.Components.{component_node, member_is, is_member}
-use Rattle.layout.specs.declared.lines.NodeColumns.{NodeColumns}
+use Rattle.layout.specs.declared.lines.Lines.{Lines}
 use Rattle.layout.specs.declared.parts.Parts.{Parts as Table}
-use Rattle.layout.specs.Lines.{nodes_in}
+use Rattle.layout.specs.declared.networks.SoundNetwork.{SoundNetwork}
+use Rattle.layout.specs.Lines.{nodes_in, nodes_of, network_of}
 use Rattle.layout.specs.inner.Parts.{top, index, Bare, Parted}
 use Rattle.layout.specs.inner.Parts as Parts
 use Rattle.layout.proofs.Numbered.{secondary_in, stamp_in}
@@ -40,7 +42,7 @@ count_below (suc k) v f l = by_eq v (suc k) (λ e. rw (← e) (count_whole v f))
     (λ d. omega (
       arith,
       sum_suc k (λ q. tally (f q && under q (v + 1))),
-      ap tally (and_no_r (f (suc k)) (under (suc k) (v + 1)) (not_under (omega arith))),
+      ap tally (and_right (f (suc k)) (under (suc k) (v + 1)) (not_under (omega arith))),
       count_below k v f (omega arith),
     ))
 
@@ -156,73 +158,81 @@ module _ {N : Network} (ok : Sound N) where
               bare_indices = bare_set size t.index v k node.low node.high P.bare_indices;
             }
 
+-- the turn of a reticulation v, where those below it are counted in t: its top and the count there fit, and with it counted v is done
+pub record Counting (N : Network) (v : ℕ) (t : Table) : Type 0 where
+  pub top_fits : top t v ≤ 127
+  pub count_fits : Parts.reticulation_count t (top t v) ≤ 127
+  pub next : length t.reticulation_count ≡ 128 → length t.index ≡ 128
+      → PartedTo N v (record {
+        rank = t.rank;
+        top = t.top;
+        reticulation_count = set t.reticulation_count (top t v) (Parts.reticulation_count t (top t v) + 1);
+        index = set t.index v (Parts.reticulation_count t (top t v));
+      })
+
 -- the columns of ranks and tops
-module _ (n : ℕ) (l : NodeColumns) (few : n ≤ 127) where
+module _ (network : SoundNetwork) where
+  abbrev lines : Lines
+  lines = network.lines.now
+
   abbrev N : Network
-  N = network (nodes_in n l)
+  N = network_of lines
 
-  rank_is : (v : ℕ) → 1 ≤ v → v ≤ n → rank_at l v ≡ N.rank v
+  rank_is : (v : ℕ) → 1 ≤ v → v ≤ lines.header.nodes → rank_at lines.nodes v ≡ N.rank v
   unfolding rank_at
-  rank_is v a b = rw (lines-rank (nodes_in n l) v (λ e. omega arith), secondary_in n l v a b, stamp_in n l v a b)
+  rank_is v a b = rw (lines-rank (nodes_of lines) v (λ e. omega arith), secondary_in lines.header.nodes lines.nodes v a b, stamp_in lines.header.nodes lines.nodes v a b)
 
-  ranks_in : (v : ℕ) → v ≤ n → at (filled n zeros (rank_at l)) v ≡ N.rank v
+  ranks_in : (v : ℕ) → v ≤ lines.header.nodes → at (filled lines.header.nodes zeros (rank_at lines.nodes)) v ≡ N.rank v
   ranks_in v u = by_eq v 0
-      (λ e. rw e (filled_zero n zeros (rank_at l) ∙ zeros_at 0 ∙ sym (rank_none (nodes_in n l))))
-      (λ d. filled_in n zeros (rank_at l) v (omega arith) u (omega (arith, zeros_long)) ∙ rank_is v (omega arith) u)
+      (λ e. rw e (filled_zero lines.header.nodes zeros (rank_at lines.nodes) ∙ zeros_at 0 ∙ sym (rank_none (nodes_of lines))))
+      (λ d. filled_in lines.header.nodes zeros (rank_at lines.nodes) v (omega arith) u (omega (arith, zeros_long, lines.within.few_nodes)) ∙ rank_is v (omega arith) u)
 
-  pub ranked : (r : List ℕ) → r ≡ filled n zeros (rank_at l) → Ranked N r
-  unfolding network nodes_in
+  pub ranked : (r : List ℕ) → r ≡ filled lines.header.nodes zeros (rank_at lines.nodes) → Ranked N r
+  unfolding of_lines nodes_in
   ranked r e = rw e (record { ranks = ranks_in })
 
-  pub parted_start : (r s : List ℕ) → r ≡ filled n zeros (rank_at l) → s ≡ filled n zeros (component N) → Sound N
+  pub parted_start : (r s : List ℕ) → r ≡ filled lines.header.nodes zeros (rank_at lines.nodes) → s ≡ filled lines.header.nodes zeros (component N)
       → PartedTo N 0 (record { rank = r; top = s; reticulation_count = zeros; index = zeros })
-  unfolding network nodes_in
-  parted_start r s er es ok = rw (er, es) (record {
+  unfolding of_lines nodes_in
+  parted_start r s er es = rw (er, es) (record {
     ranks = ranks_in;
-    tops = λ v k. filled_in n zeros (component N) v k.low k.high (omega (arith, zeros_long));
+    tops = λ v k. filled_in lines.header.nodes zeros (component N) v k.low k.high (omega (arith, zeros_long, lines.within.few_nodes));
     counts = λ c k. zeros_at c ∙ count_start (member_of N c);
-    indices = λ r d u. absurd (omega (arith, (reticulation_node N ok r d).low));
-    bare_ranks = bare_filled n (rank_at l);
-    bare_tops = bare_filled n (component N);
-    bare_counts = bare_zeros n;
-    bare_indices = bare_zeros n;
+    indices = λ r d u. absurd (omega (arith, (reticulation_node N network.sound r d).low));
+    bare_ranks = bare_filled lines.header.nodes (rank_at lines.nodes);
+    bare_tops = bare_filled lines.header.nodes (component N);
+    bare_counts = bare_zeros lines.header.nodes;
+    bare_indices = bare_zeros lines.header.nodes;
   })
 
-  pub parted_done : (t : Table) (v : ℕ) → Sound N → v ≤ n → n ≤ v → PartedTo N v t → Parted N t
-  unfolding network nodes_in
-  parted_done t v ok a b P = parted_end ok P a b
+  pub parted_done : (t : Table) (v : ℕ) → v ≤ lines.header.nodes → lines.header.nodes ≤ v → PartedTo N v t → Parted N t
+  unfolding of_lines nodes_in
+  parted_done t v a b P = parted_end network.sound P a b
 
-  pub size_few : N.size ≤ 127
-  unfolding network nodes_in
-  size_few = few
+  size_few : N.size ≤ 127
+  unfolding of_lines nodes_in
+  size_few = lines.within.few_nodes
 
-  -- node v with the secondary parent x, where the nodes below it are counted in t
-  module _ (ok : Sound N) (v : ℕ) (low : 1 ≤ v) (high : v ≤ n) (t : Table) (P : PartedTo N (v - 1) t) where
-    pub node_skip : at l.secondary v ≡ 0 → PartedTo N v t
-    unfolding network
-    node_skip z = parted_skip ok low P (secondary_in n l v low high ∙ z)
+  -- node v, where those below it are counted in t
+  module _ (v : ℕ) (limits : (1 ≤ v) × (v ≤ lines.header.nodes)) (t : Table) (P : PartedTo N (v - 1) t) where
+    second_is : N.secondary v ≡ at lines.nodes.secondary v
+    unfolding of_lines
+    second_is = secondary_in lines.header.nodes lines.nodes v limits.0 limits.1
 
-    module _ (d : at l.secondary v ≡ 0 → ⊥) where
-      some : Reticulation N v
-      unfolding network
-      some z = d (sym (secondary_in n l v low high) ∙ z)
+    pub node_skip : at lines.nodes.secondary v ≡ 0 → PartedTo N v t
+    node_skip z = parted_skip network.sound limits.0 P (second_is ∙ z)
 
-      pub node_top : top t v ≤ 127
-      node_top = top_fits ok low P size_few some refl
+    pub node_counting : (at lines.nodes.secondary v ≡ 0 → ⊥) → Counting N v t
+    node_counting d = record {
+      top_fits = top_fits network.sound limits.0 P size_few some refl;
+      count_fits = count_fits network.sound limits.0 P size_few some refl refl;
+      next = parted_next network.sound limits.0 P size_few some refl refl;
+    }
+      where
+        some : Reticulation N v
+        some z = d (sym second_is ∙ z)
 
-      pub node_count : Parts.reticulation_count t (top t v) ≤ 127
-      node_count = count_fits ok low P size_few some refl refl
-
-      pub node_next : length t.reticulation_count ≡ 128 → length t.index ≡ 128
-          → PartedTo N v (record {
-            rank = t.rank;
-            top = t.top;
-            reticulation_count = set t.reticulation_count (top t v) (Parts.reticulation_count t (top t v) + 1);
-            index = set t.index v (Parts.reticulation_count t (top t v));
-          })
-      node_next = parted_next ok low P size_few some refl refl
-
-  -- 11 by the counts at the tops
-  pub crowded_read : (t : Table) → Parted N t → any n (λ v. under 8 (Parts.reticulation_count t v)) ≡ refusal11 N
-  unfolding refusal11 crowded_at network nodes_in
-  crowded_read t P = some_same n _ _ (λ v a b. ap (under 8) (P.counts v (record { low = a; high = b })))
+-- 11 by the counts at the tops
+pub crowded_read : (sheet : Lines) (t : Table) → Parted (network_of sheet) t → any sheet.header.nodes (λ v. under 8 (Parts.reticulation_count t v)) ≡ refusal11 (network_of sheet)
+unfolding refusal11 crowded_at of_lines nodes_in
+crowded_read sheet t P = some_same sheet.header.nodes _ _ (λ v a b. ap (under 8) (P.counts v (record { low = a; high = b })))

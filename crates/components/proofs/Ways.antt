@@ -3,25 +3,29 @@
 -- Assumes nothing.
 use Rattle.std.proofs.Common.{◌≡◌, ◌≢◌, Bool, true, false, not, ◌||◌, List, length, set, ℕ, zero, suc, ◌+◌, ◌-◌, ◌≤◌, ◌<◌, refl, sym, ap, ◌∙◌, arith, add-one}
 use Rattle.std.specs.Bool.{beq}
+use mathlib.Core.Bool.{or-false, or_assoc, or_comm}
 use Rattle.std.proofs.Math.ListN.{replicate, length-set, length-replicate}
 use Rattle.std.proofs.Math.Seq.{get_or-set_same, get_or-set_other}
 use Rattle.finite.specs.Tests.{same}
 use Rattle.finite.specs.Range.{any}
 use Rattle.finite.specs.Tables.{at, holds}
 use Rattle.finite.proofs.Cases.{by_bool, by_eq, clash}
-use Rattle.finite.proofs.Tests.{is_same, not_same, is_beq, test_iff, or_yes_r, not_true, not_false, not_yes, not_no}
+use Rattle.std.proofs.lemmas.Bool.{or_right, not-true, not-false, not_from_false, not_from_true}
+use Rattle.finite.proofs.Tests.{is_same, not_same, is_beq, test_iff}
 use Rattle.finite.proofs.Every.{some_at, is_every, not_some}
 use Rattle.topology.specs.Networks.{Network, Node, Sound, Reticulation, is_reticulation}
 use Rattle.topology.specs.Switchings.{all_principal, above}
 use Rattle.topology.specs.Components.{is_top, component}
-use Rattle.topology.specs.Lines.{network}
+use Rattle.topology.specs.Lines.{network as of_lines}
 use Rattle.topology.proofs.Climbing.{low_some}
 use Rattle.topology.proofs.Above.{node_principal, fall_principal, falls_principal, above_self, above_low, tree_not, reticulation_is, is_reticulation_lem}
 use Rattle.topology.proofs.Components.{component_top, component_up, top_root, top_reticulation}
-use Rattle.layout.specs.declared.lines.NodeColumns.{NodeColumns}
-use Rattle.layout.specs.Lines.{nodes_in}
+use Rattle.layout.specs.declared.lines.Lines.{Lines}
+use Rattle.layout.specs.declared.networks.SoundNetwork.{SoundNetwork}
+use Rattle.layout.specs.Lines.{nodes_in, network_of}
 use Rattle.layout.proofs.Numbered.{principal_in, secondary_in}
-use Rattle.components.specs.inner.Ways.{Ranked, between, bridged, MarkedWay, MarkedWays, NonTops}
+use Rattle.components.specs.declared.climbs.Climbs.{Climbs}
+use Rattle.components.specs.inner.Ways.{between, bridged, MarkedWay, MarkedWays, NonTops}
 
 -- marking a node
 pub marked_set : (m : List Bool) (a : ℕ) → a < length m → (w : ℕ) → holds (set m a true) w ≡ (same w a || holds m w)
@@ -36,20 +40,11 @@ plain_way N w r h = by_bool (is_reticulation N r) (λ t. rw (t, is_beq (h (retic
 
 way_plain : (N : Network) (w r : ℕ) → Reticulation N r → bridged N w r ≡ false → beq (above N all_principal w r) (above N all_principal w (N.secondary r)) ≡ true
 unfolding bridged between
-way_plain N w r d t = not_false _ (rw (is_reticulation_lem N r d) at t)
+way_plain N w r d t = not-false _ (rw (is_reticulation_lem N r d) at t)
 
 top_by : (N : Network) (w : ℕ) → ((r : ℕ) → 1 ≤ r → r ≤ N.size → Reticulation N r → beq (above N all_principal w r) (above N all_principal w (N.secondary r)) ≡ true) → is_top N w ≡ true
 unfolding is_top
-top_by N w h = or_yes_r (same (N.principal w) 0) _ (is_every N.size _ (λ r l u. by_eq (N.secondary r) 0 (λ e. rw (is_same e)) (λ d. rw (not_same d) (h r l u d))))
-
-or_false_r : (a b : Bool) → b ≡ false → (a || b) ≡ a
-or_false_r true b e = refl
-or_false_r false b e = e
-
-shuffle : (a b c : Bool) → ((a || b) || c) ≡ (b || (a || c))
-shuffle true true c = refl
-shuffle true false c = refl
-shuffle false b c = refl
+top_by N w h = or_right (same (N.principal w) 0) _ (is_every N.size _ (λ r l u. by_eq (N.secondary r) 0 (λ e. rw (is_same e)) (λ d. rw (not_same d) (h r l u d))))
 
 module _ (N : Network) (ok : Sound N) where
   open N use {size}
@@ -75,8 +70,8 @@ module _ (N : Network) (ok : Sound N) where
   -- a node is a top exactly when it is on none of the ways
   pub ways_are : (w : ℕ) → Node N w → is_top N w ≡ not (any size (bridged N w))
   ways_are w k = test_iff (is_top N w) (not (any size (bridged N w)))
-      (λ t. not_yes _ (by_bool (any size (bridged N w)) (λ q. let r = some_at size (bridged N w) q in clash r.3 (kept t r.0)) (λ q. q)))
-      (λ q. crossed_none (not_true _ q))
+      (λ t. not_from_false _ (by_bool (any size (bridged N w)) (λ q. let r = some_at size (bridged N w) q in clash r.3 (kept t r.0)) (λ q. q)))
+      (λ q. crossed_none (not-true _ q))
     where
       kept : is_top N w ≡ true → (r : ℕ) → bridged N w r ≡ false
       kept t r = plain_way N w r (λ d. top_reticulation N ok w r k t d)
@@ -89,71 +84,74 @@ pub record OnWay (N : Network) (before : List Bool) (x y : ℕ) (marks : List Bo
   pub long : length marks ≡ 128
   pub at_each : (w : ℕ) → (holds marks w || between N a b w) ≡ (holds before w || between N x y w)
 
-module _ (n : ℕ) (l : NodeColumns) (t : List ℕ) (ok : Sound (network (nodes_in n l))) (R : Ranked (network (nodes_in n l)) t) where
+module _ (climbs : Climbs) where
+  abbrev lines : Lines
+  lines = climbs.network.lines.now
+
   abbrev N : Network
-  N = network (nodes_in n l)
+  N = network_of lines
 
   -- a step from the node of larger rank
-  module _ (a b : ℕ) (ia : a ≤ n) (ib : b ≤ n) (u : at t b ≤ at t a) (d : a ≢ b) where
+  module _ (a b : ℕ) (ia : a ≤ lines.header.nodes) (ib : b ≤ lines.header.nodes) (u : at climbs.ranks.now b ≤ at climbs.ranks.now a) (d : a ≢ b) where
     abbrev p : ℕ
-    p = at l.principal a
+    p = at lines.nodes.principal a
 
     low : N.rank b ≤ N.rank a
-    unfolding network nodes_in
-    low = omega (arith, R.ranks a ia, R.ranks b ib)
+    unfolding of_lines nodes_in
+    low = omega (arith, climbs.ranked.ranks a ia, climbs.ranked.ranks b ib)
 
     some_node : a ≢ 0
-    some_node = low_some N.rank N.principal (falls_principal N ok) a b low d
+    some_node = low_some N.rank N.principal (falls_principal N climbs.network.sound) a b low d
 
     step_is : p ≡ N.principal a
-    unfolding network
-    step_is = let z = some_node in sym (principal_in n l a (omega arith) ia)
+    unfolding of_lines
+    step_is = let z = some_node in sym (principal_in lines.header.nodes lines.nodes a (omega arith) ia)
 
-    step_in : p ≤ n
-    unfolding network nodes_in
-    step_in = let z = some_node in rw step_is (ok.in_principal a (record { low = omega arith; high = ia }))
+    step_in : p ≤ lines.header.nodes
+    unfolding of_lines nodes_in
+    step_in = let z = some_node in rw step_is (climbs.network.sound.in_principal a (record { low = omega arith; high = ia }))
 
     step_falls : N.rank p < N.rank a
-    step_falls = rw step_is (fall_principal N ok a some_node)
+    step_falls = rw step_is (fall_principal N climbs.network.sound a some_node)
 
     step_marks : (m : List Bool) → a < length m → (w : ℕ) → (holds (set m a true) w || between N p b w) ≡ (holds m w || between N a b w)
-    step_marks m s w = rw (marked_set m a s w, between_left N ok a b w low d, step_is) (shuffle (same w a) (holds m w) (between N (N.principal a) b w))
+    step_marks m s w = rw (marked_set m a s w, between_left N climbs.network.sound a b w low d, step_is, or_comm (same w a) (holds m w)) (or_assoc (holds m w) (same w a) (between N (N.principal a) b w))
 
   module _ (before : List Bool) (x y : ℕ) where
-    pub way_start : length before ≡ 128 → OnWay N before x y before x y
-    way_start q = record { long = q; at_each = λ w. refl }
-
     pub way_end : (m : List Bool) (a b : ℕ) → OnWay N before x y m a b → a ≡ b → MarkedWay N before m x y
-    way_end m a b o e = record { long = o.long; at_each = λ w. sym (or_false_r (holds m w) (between N a b w) (rw e (between_same N ok b w))) ∙ o.at_each w }
+    way_end m a b o e = record { long = o.long; at_each = λ w. rw (apart w, or-false (holds m w)) at (o.at_each w) }
+      where
+        apart : (w : ℕ) → between N a b w ≡ false
+        apart w = rw e (between_same N climbs.network.sound b w)
 
     -- the climber of larger rank goes on, to its principal parent
-    module _ (m : List Bool) (a b : ℕ) (i : (a ≤ n) × (b ≤ n) × OnWay N before x y m a b) (d : a ≡ b → ⊥) where
-      module _ (u : at t b ≤ at t a) where
-        pub kept_left : a ≤ 127 → (at l.principal a ≤ n) × (b ≤ n) × OnWay N before x y (set m a true) (at l.principal a) b
+    module _ (m : List Bool) (a b : ℕ) (i : (a ≤ lines.header.nodes) × (b ≤ lines.header.nodes) × OnWay N before x y m a b) (d : a ≡ b → ⊥) where
+      module _ (u : at climbs.ranks.now b ≤ at climbs.ranks.now a) where
+        pub kept_left : a ≤ 127 → (at lines.nodes.principal a ≤ lines.header.nodes) × (b ≤ lines.header.nodes) × OnWay N before x y (set m a true) (at lines.nodes.principal a) b
         kept_left s = (
           step_in a b i.0 i.1 u d,
           i.1,
           record { long = length-set m a true ∙ i.2.long; at_each = λ w. step_marks a b i.0 i.1 u d m (omega (arith, i.2.long)) w ∙ i.2.at_each w },
         )
 
-        pub less_left : N.rank (at l.principal a) + N.rank b < N.rank a + N.rank b
+        pub less_left : N.rank (at lines.nodes.principal a) + N.rank b < N.rank a + N.rank b
         less_left = omega (arith, step_falls a b i.0 i.1 u d)
 
-      module _ (u : at t a < at t b) where
-        pub kept_right : b ≤ 127 → (a ≤ n) × (at l.principal b ≤ n) × OnWay N before x y (set m b true) a (at l.principal b)
+      module _ (u : at climbs.ranks.now a < at climbs.ranks.now b) where
+        pub kept_right : b ≤ 127 → (a ≤ lines.header.nodes) × (at lines.nodes.principal b ≤ lines.header.nodes) × OnWay N before x y (set m b true) a (at lines.nodes.principal b)
         kept_right s = (
           i.0,
           step_in b a i.1 i.0 (omega arith) (λ q. d (sym q)),
           record {
             long = length-set m b true ∙ i.2.long;
-            at_each = λ w. ap (λ (q : Bool). holds (set m b true) w || q) (between_sym N ok a (at l.principal b) w)
+            at_each = λ w. ap (λ (q : Bool). holds (set m b true) w || q) (between_sym N climbs.network.sound a (at lines.nodes.principal b) w)
                 ∙ step_marks b a i.1 i.0 (omega arith) (λ q. d (sym q)) m (omega (arith, i.2.long)) w
-                ∙ ap (λ (q : Bool). holds m w || q) (between_sym N ok b a w)
+                ∙ ap (λ (q : Bool). holds m w || q) (between_sym N climbs.network.sound b a w)
                 ∙ i.2.at_each w;
           },
         )
 
-        pub less_right : N.rank a + N.rank (at l.principal b) < N.rank a + N.rank b
+        pub less_right : N.rank a + N.rank (at lines.nodes.principal b) < N.rank a + N.rank b
         less_right = omega (arith, step_falls b a i.1 i.0 (omega arith) (λ q. d (sym q)))
 
 -- one reticulation more, and all
@@ -180,68 +178,74 @@ pub ways_none : (N : Network) → MarkedWays N (replicate 128 false) 0
 unfolding any
 ways_none N = record { long = length-replicate 128 false; at_each = none_marked 128 }
 
-module _ (n : ℕ) (l : NodeColumns) where
+module _ (network : SoundNetwork) where
+  abbrev held : Lines
+  held = network.lines.now
+
   abbrev M : Network
-  M = network (nodes_in n l)
+  M = network_of held
 
   -- node k with its secondary parent
-  module _ (k : ℕ) (low : 1 ≤ k) (high : k ≤ n) where
-    second_is : M.secondary k ≡ at l.secondary k
-    unfolding network
-    second_is = secondary_in n l k low high
+  module _ (k : ℕ) (limits : (1 ≤ k) × (k ≤ held.header.nodes)) where
+    second_is : M.secondary k ≡ at held.nodes.secondary k
+    unfolding of_lines
+    second_is = secondary_in held.header.nodes held.nodes k limits.0 limits.1
 
-    pub second_in : Sound M → at l.secondary k ≤ n
-    unfolding network nodes_in
-    second_in ok = rw (← second_is) (ok.in_secondary k (record { low = low; high = high }))
+    pub second_in : at held.nodes.secondary k ≤ held.header.nodes
+    unfolding of_lines nodes_in
+    second_in = rw (← second_is) (network.sound.in_secondary k (record { low = limits.0; high = limits.1 }))
 
     -- where the ways of the reticulations before it are marked
     module _ (before : List Bool) (h : MarkedWays M before (k - 1)) where
-      pub ways_plain : at l.secondary k ≡ 0 → MarkedWays M before k
+      pub ways_plain : at held.nodes.secondary k ≡ 0 → MarkedWays M before k
       ways_plain z = record {
         long = h.long;
-        at_each = λ w. h.at_each w ∙ sym (some_last k (bridged M w) low ∙ or_false_r (any (k - 1) (bridged M w)) (bridged M w k) (bridged_none M w k (second_is ∙ z)));
+        at_each = λ w. h.at_each w ∙ sym (some_last k (bridged M w) limits.0 ∙ rw (bridged_none M w k (second_is ∙ z), or-false (any (k - 1) (bridged M w))));
       }
 
-      pub ways_more : (after : List Bool) → (at l.secondary k ≡ 0 → ⊥) → MarkedWay M before after k (at l.secondary k) → MarkedWays M after k
+      pub ways_more : (after : List Bool) → (at held.nodes.secondary k ≡ 0 → ⊥) → MarkedWay M before after k (at held.nodes.secondary k) → MarkedWays M after k
       ways_more after d m = record {
         long = m.long;
-        at_each = λ w. m.at_each w ∙ rw (h.at_each w, ← second_is, ← bridged_is M w k (λ z. d (sym second_is ∙ z))) (sym (some_last k (bridged M w) low));
+        at_each = λ w. m.at_each w ∙ rw (h.at_each w, ← second_is, ← bridged_is M w k (λ z. d (sym second_is ∙ z))) (sym (some_last k (bridged M w) limits.0));
       }
 
   -- the loop is left before its turn at v
-  pub ways_end : (marks : List Bool) (v : ℕ) → Sound M → v ≤ n + 1 → n < v → MarkedWays M marks (v - 1) → NonTops M marks
-  unfolding network nodes_in
-  ways_end marks v ok a b h = let e : v - 1 ≡ n = omega arith in
-      record { at_each = λ w k. ways_are M ok w k ∙ ap not (sym ((rw e at h).at_each w)) }
+  pub ways_end : (marks : List Bool) (v : ℕ) → v ≤ held.header.nodes + 1 → held.header.nodes < v → MarkedWays M marks (v - 1) → NonTops M marks
+  unfolding of_lines nodes_in
+  ways_end marks v a b h = let e : v - 1 ≡ held.header.nodes = omega arith in
+      record { at_each = λ w k. ways_are M network.sound w k ∙ ap not (sym ((rw e at h).at_each w)) }
 
 -- going up from a node that is no top
-module _ (n : ℕ) (l : NodeColumns) (marks : List Bool) (ok : Sound (network (nodes_in n l))) (tops : NonTops (network (nodes_in n l)) marks) where
-  abbrev K : Network
-  K = network (nodes_in n l)
+module _ (network : SoundNetwork) (marks : List Bool) (tops : NonTops (network_of network.lines.now) marks) where
+  abbrev sheet : Lines
+  sheet = network.lines.now
 
-  module _ (v a : ℕ) (i : (1 ≤ a) × (a ≤ n) × (component K a ≡ component K v)) where
+  abbrev K : Network
+  K = network_of sheet
+
+  module _ (v a : ℕ) (i : (1 ≤ a) × (a ≤ sheet.header.nodes) × (component K a ≡ component K v)) where
     node : Node K a
-    unfolding network nodes_in
+    unfolding of_lines nodes_in
     node = record { low = i.0; high = i.1 }
 
     pub top_end : holds marks a ≡ false → a ≡ component K v
-    top_end z = sym (component_top K ok a (tops.at_each a node ∙ not_yes _ z)) ∙ i.2
+    top_end z = sym (component_top K network.sound a (tops.at_each a node ∙ not_from_false _ z)) ∙ i.2
 
     -- to its principal parent
-    up : at l.principal a ≡ K.principal a
-    unfolding network
-    up = sym (principal_in n l a i.0 i.1)
+    up : at sheet.nodes.principal a ≡ K.principal a
+    unfolding of_lines
+    up = sym (principal_in sheet.header.nodes sheet.nodes a i.0 i.1)
 
-    pub up_less : K.rank (at l.principal a) < K.rank a
-    up_less = rw up (fall_principal K ok a (omega (arith, i.0)))
+    pub up_less : K.rank (at sheet.nodes.principal a) < K.rank a
+    up_less = rw up (fall_principal K network.sound a (omega (arith, i.0)))
 
     module _ (d : holds marks a ≡ true) where
       no_top : is_top K a ≡ false
-      no_top = tops.at_each a node ∙ not_no _ d
+      no_top = tops.at_each a node ∙ not_from_true _ d
 
       node_up : Node K (K.principal a)
-      node_up = node_principal K ok a node (λ q. clash (top_root K ok a q) no_top)
+      node_up = node_principal K network.sound a node (λ q. clash (top_root K network.sound a q) no_top)
 
-      pub up_kept : (1 ≤ at l.principal a) × (at l.principal a ≤ n) × (component K (at l.principal a) ≡ component K v)
-      unfolding network nodes_in
-      up_kept = (rw up node_up.low, rw up node_up.high, rw up (sym (component_up K ok a no_top) ∙ i.2))
+      pub up_kept : (1 ≤ at sheet.nodes.principal a) × (at sheet.nodes.principal a ≤ sheet.header.nodes) × (component K (at sheet.nodes.principal a) ≡ component K v)
+      unfolding of_lines nodes_in
+      up_kept = (rw up node_up.low, rw up node_up.high, rw up (sym (component_up K network.sound a no_top) ∙ i.2))

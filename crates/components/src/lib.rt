@@ -7,17 +7,18 @@ mod climbs;
 ghost use Rattle.std.specs.Prelude.{◌≡◌, ◌-◌, ◌≤◌, ◌<◌};
 ghost use Rattle.finite.specs.Refusals.{verdict};
 ghost use Rattle.finite.specs.Tables.{at};
-ghost use Rattle.topology.specs.Networks.{Sound};
 ghost use Rattle.layout.specs.Lines.{nodes_of, network_of};
 ghost use Rattle.layout.specs.inner.Parts.{Parted};
 ghost use Rattle.components.specs.Refusals.{refusal11, component_refusals};
 ghost use Rattle.refusals.specs.Numbers.{refused};
 ghost use Rattle.components.specs.inner.Filling.{Dated, rank_at, PartedTo};
 
-use climbs::tops;
+use climbs::Climbs;
 use layout::lines::{Lines, NodeColumns};
+use layout::networks::SoundNetwork;
 use layout::parts::Parts;
 use refusals::Refusal;
+use tables::ZEROS;
 
 // The rank of node v.
 #[tactic(auto, unfolding(crate::specs::inner::Filling::rank_at, topology::specs::Lines::rank_of, finite::specs::Tests::same))]
@@ -29,12 +30,12 @@ fn rank_of(nodes: &NodeColumns, v: usize) -> u32
 }
 
 // Node v, where it is a reticulation, counts at its component's top; those counted there before it are its index.
-fn count_node(lines: &Lines, parts: &mut Parts, v: usize)
-    requires limits { (1 ≤ v) × (v ≤ lines.now.header.nodes) }
-    requires parted { Sound (network_of lines.now) × PartedTo (network_of lines.now) (v - 1) parts.old }
-    ensures { PartedTo (network_of lines.now) v parts.new }
+fn count_node(network: SoundNetwork, parts: &mut Parts, v: usize)
+    requires limits { (1 ≤ v) × (v ≤ network.lines.now.header.nodes) }
+    requires parted { PartedTo (network_of network.lines.now) (v - 1) parts.old }
+    ensures { PartedTo (network_of network.entry.lines.now) v parts.new }
 {
-    if lines.nodes.secondary[v] == 0 {
+    if network.lines.nodes.secondary[v] == 0 {
         return;
     }
     let c = parts.top[v] as usize;
@@ -43,33 +44,38 @@ fn count_node(lines: &Lines, parts: &mut Parts, v: usize)
     parts.reticulation_count[c] = k + 1;
 }
 
-fn counts(lines: &Lines, parts: &mut Parts)
-    requires { Sound (network_of lines.now) × PartedTo (network_of lines.now) 0 parts.old }
-    ensures { Parted (network_of lines.now) parts.new }
+// What each component has of reticulations, and the index of each.
+fn counts(network: SoundNetwork, parts: &mut Parts)
+    requires { PartedTo (network_of network.lines.now) 0 parts.old }
+    ensures { Parted (network_of network.entry.lines.now) parts.new }
 {
-    for v in 1..=lines.header.nodes {
-        count_node(lines, parts, v);
+    for v in 1..=network.lines.header.nodes {
+        count_node(network, parts, v);
     }
 }
 
 // The parts of a network in which 6, 7 and 8 have passed.
-pub fn part(lines: &Lines) -> Parts
-    requires { Sound (network_of lines.now) × Dated lines.now.header.nodes lines.now.nodes }
-    ensures { Parted (network_of lines.now) result }
+pub fn part(network: SoundNetwork) -> Parts
+    requires { Dated network.lines.now.header.nodes network.lines.now.nodes }
+    ensures { Parted (network_of network.entry.lines.now) result }
 {
     let mut parts = Parts {
-        rank: [0; 128],
-        top: [0; 128],
-        reticulation_count: [0; 128],
-        index: [0; 128],
+        rank: ZEROS,
+        top: ZEROS,
+        reticulation_count: ZEROS,
+        index: ZEROS,
     };
     tables::fill(
-        lines.header.nodes,
-        |v| rank_of(&lines.nodes, v),
+        network.lines.header.nodes,
+        |v| rank_of(&network.lines.nodes, v),
         &mut parts.rank,
     );
-    tops(lines, &parts.rank, &mut parts.top);
-    counts(lines, &mut parts);
+    let climbs = Climbs {
+        network,
+        ranks: &parts.rank,
+    };
+    climbs.tops(&mut parts.top);
+    counts(network, &mut parts);
     parts
 }
 
@@ -81,7 +87,7 @@ fn crowded(lines: &Lines, parts: &Parts) -> bool
     (1..lines.header.nodes + 1).any(|v| 8 < parts.reticulation_count[v])
 }
 
-// The first refusal that applies to the components, which 11 alone asks.
+// The first refusal that applies to the components, which 11 alone asks. (It takes no `PartedNetwork`, for it does not ask that the network is sound.)
 #[tactic(auto, using(finite::proofs::Refusals::verdict_laws), unfolding(crate::specs::Refusals::component_refusals))]
 pub fn verdict(lines: &Lines, parts: &Parts) -> Result<(), Refusal>
     requires { Parted (network_of lines.now) parts.now }

@@ -12,9 +12,8 @@ use Rattle.finite.proofs.Count.{count_same, count_some, count_two, count_three}
 use Rattle.topology.specs.Networks.{Network, Node, Sound, Reticulation, is_reticulation}
 use Rattle.topology.specs.Switchings.{Switching, on_secondary, parent, above}
 use Rattle.topology.specs.Components.{is_top, component, Agree}
-use Rattle.topology.proofs.Above.{parent_agree, parent_cases, principal_node, reticulation_node, falls}
+use Rattle.topology.proofs.Above.{parent_agree, parent_cases, principal_node, reticulation_node, node_parent, falls}
 use Rattle.topology.proofs.Components.{component_parent, top_root, top_parent, above_top, above_local, reticulation_not_top}
-use Rattle.topology.proofs.Lca.{node_parent}
 use Rattle.reconciliation.specs.GeneTrees.{GeneTree, Seated}
 use Rattle.reconciliation.proofs.Agreement.{parent_same, secondary_same}
 use Rattle.displayed.specs.Displayed.{Tree}

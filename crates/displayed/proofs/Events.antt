@@ -4,7 +4,8 @@
 use Rattle.std.proofs.Common.{◌≡◌, refl, ◌≢◌, ◌↔◌, ◌⊎◌, inl, inr, true, false, cond, ◌||◌, ℕ, ◌≤◌, arith}
 use Rattle.finite.specs.Tests.{same}
 use Rattle.finite.proofs.Cases.{by_bool, by_eq, clash}
-use Rattle.finite.proofs.Tests.{is_same, same_is, not_same, and_l, and_r, or_yes_r}
+use Rattle.std.proofs.lemmas.Bool.{or_right}
+use Rattle.finite.proofs.Tests.{is_same, same_is, not_same, and_l, and_r}
 use Rattle.finite.proofs.Every.{some_at, is_some}
 use Rattle.reconciliation.specs.GeneTrees.{GeneTree}
 use Rattle.displayed.specs.Displayed.{Displayed, NodeOf}
@@ -56,7 +57,7 @@ module _ (T : Displayed) (G : GeneTree) (g : ℕ) where
 
   pub is_duplication_lem : G.left g ≢ 0 → ChildHere → is_duplication T G g ≡ true
   is_duplication_lem d (inl e) = rw (duplication_inner d, is_same e)
-  is_duplication_lem d (inr e) = rw (duplication_inner d) (or_yes_r (same (place T G (G.left g)) (place T G g)) _ (is_same e))
+  is_duplication_lem d (inr e) = rw (duplication_inner d) (or_right (same (place T G (G.left g)) (place T G g)) _ (is_same e))
 
   no_duplication : (¬ ChildHere) → is_duplication T G g ≡ false
   no_duplication n = by_bool (is_duplication T G g) (λ t. absurd (n (duplication_is t).1)) (λ t. t)

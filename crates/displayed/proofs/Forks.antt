@@ -3,7 +3,7 @@
 -- Assumes nothing.
 use Rattle.std.proofs.Common.{◌≡◌, sym, ◌∙◌, ap, ◌≢◌, true, ℕ, ◌-◌, ◌≤◌, ◌<◌, arith}
 use Rattle.finite.proofs.Cases.{by_eq, clash, measure}
-use Rattle.finite.proofs.Tests.{and_yes}
+use Rattle.std.proofs.lemmas.Bool.{and_from}
 use Rattle.topology.proofs.Climbing.{over_child, meet_spec, meet_over_left, meet_over_right}
 use Rattle.reconciliation.specs.GeneTrees.{GeneTree, Rooted}
 use Rattle.displayed.specs.Displayed.{Displayed, NodeOf, Tree, reaches, common}
@@ -20,7 +20,7 @@ module _ (T : Displayed) (ok : Tree T) (G : GeneTree) (t : Rooted G) (s : Seated
     where
       go : (c d : ℕ) → c ≢ 0 → d ≢ 0 → T.up c ≡ common T x y → T.up d ≡ common T x y → reaches T c x ≡ true → reaches T d y ≡ true → T.forks (common T x y) ≡ true
       go c d zc zd ec ed rc rd = rw ec at (s.two c d (reaches_node T ok c x zc kx rc) (reaches_node T ok d y zd ky rd)
-          (λ q. clash (ap (reaches T c) ec ∙ sym (meet_spec T.rank T.up ok.falls c x y zc) ∙ and_yes _ _ rc (rw (← q) at rd)) (not_below T ok c zc))
+          (λ q. clash (ap (reaches T c) ec ∙ sym (meet_spec T.rank T.up ok.falls c x y zc) ∙ and_from _ _ rc (rw (← q) at rd)) (not_below T ok c zc))
           (ec ∙ sym ed))
 
   pub place_forks : (g : ℕ) → 1 ≤ g → g ≤ G.count → (c : ℕ) → NodeOf T c → T.up c ≡ place T G g → T.forks (place T G g) ≡ true

@@ -16,7 +16,7 @@ use Rattle.displayed.proofs.Displays.{display_tree, seated, switched_agree}
 use Rattle.displayed.proofs.Places as P
 use Rattle.displayed.proofs.Events as E
 use Rattle.displayed.proofs.Bounds as B
-use Rattle.displayed.proofs.Same.{same_seated, same_place, same_event, same_transfers, same_losses, same_duplication_count, same_transfer_count, same_loss_count, same_cost_lem}
+use Rattle.displayed.proofs.Same.{SameTree, same_seated, same_place, same_event, same_transfers, same_losses, same_duplication_count, same_transfer_count, same_loss_count, same_cost_lem}
 use Rattle.displayed.proofs.Tabled.{held_same, held_tree}
 
 module _ (N : Network) (ok : Sound N) (σ : Switching) where
@@ -52,40 +52,43 @@ module _ (N : Network) (ok : Sound N) (σ : Switching) where
       pub table_tree : Tree X
       table_tree = held_tree (tree_of N σ) tree_is n up rank lateral forks H
 
+      held : SameTree X (tree_of N σ)
+      held = held_same (tree_of N σ) tree_is n up rank lateral forks H
+
       pub table_seated : SeatedIn X G
-      table_seated = same_seated X (tree_of N σ) table_tree tree_is (held_same (tree_of N σ) tree_is n up rank lateral forks H) G tree_seated
+      table_seated = same_seated X (tree_of N σ) table_tree tree_is held G tree_seated
 
       pub table_place : (g : ℕ) → T.place X G g ≡ place N G σ g
       unfolding place
-      table_place = same_place X (tree_of N σ) table_tree tree_is (held_same (tree_of N σ) tree_is n up rank lateral forks H) G tree_seated t
+      table_place = same_place X (tree_of N σ) table_tree tree_is held G tree_seated t
 
       pub table_event : (g : ℕ) → T.event X G g ≡ event N G σ g
       unfolding event
-      table_event = same_event X (tree_of N σ) table_tree tree_is (held_same (tree_of N σ) tree_is n up rank lateral forks H) G tree_seated t
+      table_event = same_event X (tree_of N σ) table_tree tree_is held G tree_seated t
 
       pub table_transfers : (g : ℕ) → T.transfers X G g ≡ transfers N G σ g
       unfolding transfers
-      table_transfers = same_transfers X (tree_of N σ) table_tree tree_is (held_same (tree_of N σ) tree_is n up rank lateral forks H) G tree_seated t
+      table_transfers = same_transfers X (tree_of N σ) table_tree tree_is held G tree_seated t
 
       pub table_losses : (g : ℕ) → T.losses X G g ≡ losses N G σ g
       unfolding losses
-      table_losses = same_losses X (tree_of N σ) table_tree tree_is (held_same (tree_of N σ) tree_is n up rank lateral forks H) G tree_seated t
+      table_losses = same_losses X (tree_of N σ) table_tree tree_is held G tree_seated t
 
       pub table_duplication_count : T.duplication_count X G ≡ duplication_count N G σ
       unfolding duplication_count
-      table_duplication_count = same_duplication_count X (tree_of N σ) table_tree tree_is (held_same (tree_of N σ) tree_is n up rank lateral forks H) G tree_seated t
+      table_duplication_count = same_duplication_count X (tree_of N σ) table_tree tree_is held G tree_seated t
 
       pub table_transfer_count : T.transfer_count X G ≡ transfer_count N G σ
       unfolding transfer_count
-      table_transfer_count = same_transfer_count X (tree_of N σ) table_tree tree_is (held_same (tree_of N σ) tree_is n up rank lateral forks H) G tree_seated t
+      table_transfer_count = same_transfer_count X (tree_of N σ) table_tree tree_is held G tree_seated t
 
       pub table_loss_count : T.loss_count X G ≡ loss_count N G σ
       unfolding loss_count
-      table_loss_count = same_loss_count X (tree_of N σ) table_tree tree_is (held_same (tree_of N σ) tree_is n up rank lateral forks H) G tree_seated t
+      table_loss_count = same_loss_count X (tree_of N σ) table_tree tree_is held G tree_seated t
 
       pub table_cost : (C : Costs) → T.lca_cost X G C ≡ lca_cost N G C σ
       unfolding lca_cost
-      table_cost = same_cost_lem X (tree_of N σ) table_tree tree_is (held_same (tree_of N σ) tree_is n up rank lateral forks H) G tree_seated t
+      table_cost = same_cost_lem X (tree_of N σ) table_tree tree_is held G tree_seated t
 
 -- only what a switching says at reticulations counts: the trees are equal, and so is all that is computed from them
 module _ (N : Network) (σ τ : Switching) (a : (r : ℕ) → Reticulation N r → σ r ≡ τ r) where

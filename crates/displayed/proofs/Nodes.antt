@@ -5,7 +5,8 @@ use Rattle.std.proofs.Common.{◌≡◌, refl, sym, ◌∙◌, ◌≢◌, Bool, 
 use Rattle.finite.specs.Tests.{same, tally}
 use Rattle.finite.specs.Range.{sum, count}
 use Rattle.finite.proofs.Cases.{by_bool, by_eq, clash}
-use Rattle.finite.proofs.Tests.{is_same, not_same, and_r, not_true, cond_same}
+use Rattle.std.proofs.lemmas.Bool.{not-true}
+use Rattle.finite.proofs.Tests.{is_same, not_same, and_r, cond_same}
 use Rattle.finite.proofs.Sum.{sum_same, sum_zero, sum_add, sum_mul, sum_swap, sum_point}
 use Rattle.reconciliation.specs.GeneTrees.{GeneTree, Rooted}
 use Rattle.reconciliation.specs.Costs.{Costs}
@@ -31,7 +32,7 @@ module _ (T : Displayed) (ok : Tree T) (G : GeneTree) (t : Rooted G) (s : Seated
       (off (reaches T c (place T G g)) (reaches T c (place T G (G.parent g))) (rw (not_same d) at w))))
     where
       off : (a b : Bool) → (a && not b) ≡ true → b ≡ false
-      off a b e = not_true b (and_r a (not b) e)
+      off a b e = not-true b (and_r a (not b) e)
 
 module _ (T : Displayed) (ok : Tree T) (G : GeneTree) (t : Rooted G) (s : SeatedIn T G) (C : Costs) (g : ℕ) where
   -- a duplication is charged where the gene sits

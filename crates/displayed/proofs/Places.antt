@@ -3,7 +3,8 @@
 -- Assumes nothing.
 use Rattle.std.proofs.Common.{◌≡◌, refl, sym, ◌∙◌, ap, ◌≢◌, ◌⊎◌, inl, inr, true, ℕ, zero, suc, ◌+◌, ◌-◌, ◌≤◌, ◌<◌, arith}
 use Rattle.finite.proofs.Cases.{by_eq, measure}
-use Rattle.finite.proofs.Tests.{is_same, not_same, and_yes}
+use Rattle.std.proofs.lemmas.Bool.{and_from}
+use Rattle.finite.proofs.Tests.{is_same, not_same}
 use Rattle.topology.proofs.Climbing.{meet_spec, meet_over_left, meet_over_right}
 use Rattle.reconciliation.specs.GeneTrees.{GeneTree, Rooted}
 use Rattle.reconciliation.proofs.Genes.{no_gene}
@@ -61,7 +62,7 @@ module _ (T : Displayed) (ok : Tree T) (G : GeneTree) (t : Rooted G) (s : Seated
     place_right = rw (place_inner T G t p i) (meet_over_right T.rank T.up ok.falls _ _)
 
     pub place_lowest : (v : ℕ) → NodeOf T v → reaches T v (place T G (G.left p)) ≡ true → reaches T v (place T G (G.right p)) ≡ true → reaches T v (place T G p) ≡ true
-    place_lowest v k a b = rw (place_inner T G t p i) (sym (meet_spec T.rank T.up ok.falls v _ _ (omega (arith, k.low))) ∙ and_yes _ _ a b)
+    place_lowest v k a b = rw (place_inner T G t p i) (sym (meet_spec T.rank T.up ok.falls v _ _ (omega (arith, k.low))) ∙ and_from _ _ a b)
 
   -- the place of the parent gene is above a gene's place
   pub parent_above : (g : ℕ) → G.parent g ≢ 0 → reaches T (place T G (G.parent g)) (place T G g) ≡ true

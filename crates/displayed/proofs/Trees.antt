@@ -2,7 +2,7 @@
 -- Assumes nothing.
 use Rattle.std.proofs.Common.{◌≡◌, sym, ◌∙◌, ap, ◌≢◌, true, false, ℕ, ◌<◌, arith}
 use Rattle.finite.proofs.Cases.{by_bool, by_eq, clash}
-use Rattle.finite.proofs.Tests.{and_yes}
+use Rattle.std.proofs.lemmas.Bool.{and_from}
 use Rattle.topology.proofs.Climbing.{climb_ind, over_self, over_up, over_not, over_zero, over_low, meet_spec, meet_over_left}
 use Rattle.displayed.specs.Displayed.{Displayed, NodeOf, Tree, reaches, common}
 
@@ -28,7 +28,7 @@ module _ (T : Displayed) (ok : Tree T) where
       r e = omega (arith, ok.root_in.low)
 
       some : common T x y ≢ 0
-      some e = clash (sym (meet_spec T.rank T.up ok.falls ok.root x y r) ∙ and_yes _ _ (root_reaches x kx) (root_reaches y ky))
+      some e = clash (sym (meet_spec T.rank T.up ok.falls ok.root x y r) ∙ and_from _ _ (root_reaches x kx) (root_reaches y ky))
           (rw e (over_zero T.rank T.up ok.falls ok.root r))
 
   -- a node is not below its parent

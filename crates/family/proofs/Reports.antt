@@ -12,7 +12,7 @@ use Rattle.columns.specs.Writing.{written}
 use Rattle.topology.specs.Networks.{Network, Node, Sound, is_reticulation, reticulations}
 use Rattle.topology.specs.Switchings.{Switching, on_secondary, parent}
 use Rattle.topology.specs.Components.{component, reticulation_count, component_count, member_of, setting_of}
-use Rattle.topology.specs.Lines.{NodeLines, GeneLines, network}
+use Rattle.topology.specs.Lines.{NodeLines, GeneLines, network as network_by}
 use Rattle.topology.proofs.Above.{reticulation_node}
 use Rattle.topology.proofs.Components.{component_node}
 use Rattle.layout.specs.Lines.{nodes_in, genes_in, nodes_of, genes_of}
@@ -26,6 +26,7 @@ use Rattle.layout.specs.declared.choices.Choices.{Choices}
 use Rattle.layout.specs.declared.tree.Tree.{Tree}
 use Rattle.layout.specs.declared.results.Placed.{Placed}
 use Rattle.layout.specs.inner.Choices.{best as chosen_setting}
+use Rattle.layout.specs.declared.networks.PartedNetwork.{PartedNetwork}
 use Rattle.layout.specs.declared.parts.Parts.{Parts}
 use Rattle.layout.specs.declared.genes.Genes.{Genes}
 use Rattle.network.proofs.Acceptance.{no_others}
@@ -53,14 +54,20 @@ use Rattle.report.specs.inner.Tables.{reticulation_in, tabled_report, SmallNodes
 use Rattle.report.proofs.Writing.{length_report, report_same}
 use Rattle.family.specs.Families.{Contents, network_in, gene_tree_in, family_in, reported}
 use Rattle.family.specs.Reports.{totals_in, report_in}
-use Rattle.family.specs.inner.Stages.{contents_by, Sized, Passed, Worked, totals_by, Written}
+use Rattle.family.specs.inner.Stages.{contents_by, Sized, Passed, totals_by, Written}
 
 -- what is no reticulation is set by no setting
 plain : (N : Network) (r : ℕ) → N.secondary r ≡ 0 → (c y : ℕ) → setting_of N c y r ≡ false
 unfolding setting_of member_of is_reticulation
 plain N r e c y = rw (is_same e)
 
-module _ (lines : Lines) (b w : ℕ) (S : Sized b w) (P : Passed (contents_by lines)) where
+module _ (network : PartedNetwork) (b w : ℕ) (S : Sized network.lines.now.header b w) (P : Passed (contents_by network.lines.now)) where
+  abbrev lines : Lines
+  lines = network.lines.now
+
+  abbrev parts : Parts
+  parts = network.parts.now
+
   abbrev h : Header
   h = lines.header
 
@@ -71,7 +78,7 @@ module _ (lines : Lines) (b w : ℕ) (S : Sized b w) (P : Passed (contents_by li
   K = genes_of lines
 
   abbrev N : Network
-  N = network L
+  N = network_by L
 
   abbrev G : GeneTree
   G = gene_tree_of L K
@@ -85,7 +92,7 @@ module _ (lines : Lines) (b w : ℕ) (S : Sized b w) (P : Passed (contents_by li
   pub admitted : Admitted L K C
   unfolding nodes_in genes_in
   admitted = record {
-    limits = lines.within;
+    limits = S.limits;
     others = no_others h.nodes lines.nodes;
     network = P.network;
     component = P.component;
@@ -93,22 +100,18 @@ module _ (lines : Lines) (b w : ℕ) (S : Sized b w) (P : Passed (contents_by li
   }
 
   size_is : N.size ≡ h.nodes
-  unfolding network nodes_in
+  unfolding network_by nodes_in
   size_is = refl
 
   is_sound : Sound N
   is_sound = sound L K C admitted
 
   -- the tables that do not depend on the switching
-  module _ (parts : Parts) (genes : Genes) (E : Worked lines parts genes b w) where
-    tree_is : gene_tree h.genes genes ≡ G
-    tree_is = E.tree
-
-    pub prepares : Prepared lines parts genes
+  module _ (genes : Genes) (tree_is : gene_tree h.genes genes ≡ G) where
+    pub prepares : Prepared lines genes
     prepares = record {
-      sound = is_sound;
+      limits = S.limits;
       few = component_few L K C admitted;
-      parted = E.parted;
       rooted = rw tree_is (rooted L K C admitted);
       seated = rw tree_is (seated L K C admitted);
     }
@@ -176,20 +179,20 @@ module _ (lines : Lines) (b w : ℕ) (S : Sized b w) (P : Passed (contents_by li
         node_in v a l = record { low = a; high = omega (arith, size_is) }
 
         top_at : (v : ℕ) → 1 ≤ v → v ≤ h.nodes → top parts v ≡ component N v
-        top_at v a l = E.parted.tops v (node_in v a l)
+        top_at v a l = network.parted.tops v (node_in v a l)
 
         top_in : (v : ℕ) → 1 ≤ v → v ≤ h.nodes → Node N (component N v)
         top_in v a l = component_node N is_sound v (node_in v a l)
 
         count_in : (c : ℕ) → Node N c → count_at_top parts c ≡ reticulation_count N c
-        count_in c k = E.parted.counts c k
+        count_in c k = network.parted.counts c k
 
         components_are : count h.nodes (λ c. not (same (count_at_top parts c) 0)) ≡ component_count N
-        unfolding component_count network nodes_in
+        unfolding component_count network_by nodes_in
         components_are = count_same h.nodes _ _ (λ v a l. rw (count_in v (node_in v a l)))
 
         reticulations_are : count h.nodes (is_reticulation N) ≡ reticulations N
-        unfolding reticulations network nodes_in
+        unfolding reticulations network_by nodes_in
         reticulations_are = refl
 
         abbrev totals : Totals

@@ -5,8 +5,9 @@ use Rattle.std.proofs.Common.{◌≡◌, refl, sym, ap, ◌∙◌, ◌≢◌, Bo
 use Rattle.finite.specs.Tests.{same, tally}
 use Rattle.finite.specs.Range.{sum, count, any, children}
 use Rattle.finite.proofs.Cases.{by_bool, by_eq, clash}
-use Rattle.finite.proofs.Tests.{is_same, not_same, same_not, and_l, and_r, and_yes, and_no_r, not_true, tally_le, tally_imp}
-use Rattle.finite.proofs.Every.{some_at, some_none}
+use Rattle.std.proofs.lemmas.Bool.{and_from, and_right, not-true}
+use Rattle.finite.proofs.Tests.{is_same, not_same, same_not, and_l, and_r, tally_le, tally_imp}
+use Rattle.finite.proofs.Every.{some_at, not_some}
 use Rattle.finite.proofs.Sum.{sum_zero_range, sum_more, sum_same, sum_le, sum_mul, sum_zero, sum_bound, sum_swap, sum_point, sum_at, sum_two, sum_short}
 
 pub count_same : (n : ℕ) (f g : ℕ → Bool) → ((v : ℕ) → 1 ≤ v → v ≤ n → f v ≡ g v) → count n f ≡ count n g
@@ -31,7 +32,7 @@ pub count_le : (n : ℕ) (f : ℕ → Bool) → count n f ≤ n
 unfolding count
 count_le n f = omega (arith, sum_bound n 1 (λ v. tally (f v)) (λ v _ _. tally_le (f v)))
 
--- one that passes is counted, and so are two
+-- one that passes is counted, and so are two and three
 pub count_some : (n v : ℕ) (f : ℕ → Bool) → 1 ≤ v → v ≤ n → f v ≡ true → 1 ≤ count n f
 unfolding count
 count_some n v f l u t = omega (arith, sum_at n v (λ w. tally (f w)) l u, ap tally t)
@@ -40,17 +41,17 @@ pub count_two : (n v w : ℕ) (f : ℕ → Bool) → 1 ≤ v → v ≤ n → 1 �
 unfolding count
 count_two n v w f lv uv lw uw d a b = omega (arith, sum_two n v w (λ x. tally (f x)) lv uv lw uw d, ap tally a, ap tally b)
 
--- none is counted where none passes
 pub count_three : (n u v w : ℕ) (f : ℕ → Bool) → 1 ≤ u → u ≤ n → 1 ≤ v → v ≤ n → 1 ≤ w → w ≤ n → u ≢ v → u ≢ w → v ≢ w → f u ≡ true → f v ≡ true → f w ≡ true → 3 ≤ count n f
 count_three n u v w f lu hu lv hv lw hw uv uw vw fu fv fw = omega (
   arith,
-  count_less n u others f (λ x t. and_l (f x) (not (same x u)) t) lu hu (and_no_r (f u) (not (same u u)) (rw (is_same {m = u} refl))) fu,
-  count_two n v w others lv hv lw hw vw (and_yes (f v) (not (same v u)) fv (rw (not_same (λ e. uv (sym e))))) (and_yes (f w) (not (same w u)) fw (rw (not_same (λ e. uw (sym e))))),
+  count_less n u others f (λ x t. and_l (f x) (not (same x u)) t) lu hu (and_right (f u) (not (same u u)) (rw (is_same {m = u} refl))) fu,
+  count_two n v w others lv hv lw hw vw (and_from (f v) (not (same v u)) fv (rw (not_same (λ e. uv (sym e))))) (and_from (f w) (not (same w u)) fw (rw (not_same (λ e. uw (sym e))))),
 )
   where
     others : ℕ → Bool
     others x = f x && not (same x u)
 
+-- none is counted where none passes
 pub count_zero : (n : ℕ) (f : ℕ → Bool) → ((v : ℕ) → 1 ≤ v → v ≤ n → f v ≡ false) → count n f ≡ 0
 unfolding count
 count_zero n f h = sum_zero n _ (λ v l u. rw (h v l u))
@@ -90,8 +91,8 @@ other a f v = not (same a v) && f v
 
 pub count_another : (n a : ℕ) (f : ℕ → Bool) → 1 ≤ a → a ≤ n → f a ≡ true → count n f ≢ 1 → (v : ℕ) × (1 ≤ v) × (v ≤ n) × (a ≢ v) × (f v ≡ true)
 count_another n a f l u t d = by_bool (any n (other a f))
-    (λ q. let r = some_at n (other a f) q in (r.0, r.1, r.2, same_not a r.0 (not_true (same a r.0) (and_l _ (f r.0) r.3)), and_r (not (same a r.0)) _ r.3))
-    (λ q. absurd (d (count_alone n a f l u t (λ v lv uv tv. by_eq a v (λ e. sym e) (λ z. clash tv (rw (not_same z) at (some_none n (other a f) q v lv uv)))))))
+    (λ q. let r = some_at n (other a f) q in (r.0, r.1, r.2, same_not a r.0 (not-true (same a r.0) (and_l _ (f r.0) r.3)), and_r (not (same a r.0)) _ r.3))
+    (λ q. absurd (d (count_alone n a f l u t (λ v lv uv tv. by_eq a v (λ e. sym e) (λ z. clash tv (rw (not_same z) at (not_some n (other a f) q v lv uv)))))))
 
 -- a count that is 0 unless b
 pub count_guarded : (n c : ℕ) (b : Bool) (f : ℕ → Bool) → ((v : ℕ) → f v ≡ true → b ≡ true) → count n f ≤ c → count n f ≤ c * tally b

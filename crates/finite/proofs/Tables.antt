@@ -6,7 +6,8 @@ use lib.ListN.{length-replicate}
 use Rattle.finite.specs.Tests.{under}
 use Rattle.finite.specs.Tables.{at, zeros, filled, within}
 use Rattle.finite.proofs.Cases.{by_eq, by_order, by_less}
-use Rattle.finite.proofs.Tests.{is_under, not_under, and_no_r}
+use Rattle.std.proofs.lemmas.Bool.{and_right}
+use Rattle.finite.proofs.Tests.{is_under, not_under}
 
 pub length_filled : (k : ℕ) (l : List ℕ) (f : ℕ → ℕ) → length (filled k l f) ≡ length l
 unfolding filled
@@ -42,7 +43,7 @@ within_zero n f = rw (not_under {m = 0} {n = 0} (omega arith))
 
 pub within_out : (n : ℕ) (f : ℕ → ℕ) (v : ℕ) → n < v → within n f v ≡ 0
 unfolding within
-within_out n f v l = rw (and_no_r (under 0 v) (under v (suc n)) (not_under {m = v} {n = suc n} (omega arith)))
+within_out n f v l = rw (and_right (under 0 v) (under v (suc n)) (not_under {m = v} {n = suc n} (omega arith)))
 
 -- f and g agree at 1..n
 pub within_same : (n : ℕ) (f g : ℕ → ℕ) → ((v : ℕ) → 1 ≤ v → v ≤ n → f v ≡ g v) → within n f ≡ within n g

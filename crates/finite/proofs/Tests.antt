@@ -3,6 +3,7 @@
 use Rattle.std.proofs.Common.{◌≡◌, refl, sym, ◌≢◌, Bool, true, false, cond, not, ◌&&◌, ◌||◌, ℕ, ◌%◌, ◌≤◌, ◌<◌, arith, eqb-true, eq-eqb, ne_eqb, ltb-true, ltb-false, lt-ltb, le-ltb}
 use mathlib.Core.Bool.{beq}
 use borrow.Author.Tests.{eqb-false}
+use Rattle.std.proofs.lemmas.Bool.{and_parts, or_parts, and_from, and_left, and_right, or_left, or_right, or_from, not_from_false, not_from_true}
 use Rattle.finite.specs.Tests.{same, under, tally}
 use Rattle.finite.proofs.Cases.{by_bool, by_eq, clash}
 
@@ -40,59 +41,20 @@ under_not m n h = ltb-false m n h
 
 -- what holds of a conjunction or a disjunction of tests
 pub and_l : (a b : Bool) → (a && b) ≡ true → a ≡ true
-and_l true b e = refl
-and_l false b e = e
+and_l a b e = (and_parts a b e).0
 
 pub and_r : (a b : Bool) → (a && b) ≡ true → b ≡ true
-and_r true b e = e
-and_r false b e = clash e refl
+and_r a b e = (and_parts a b e).1
 
 pub or_r : (a b : Bool) → (a || b) ≡ true → a ≡ false → b ≡ true
 or_r true b e q = clash refl q
 or_r false b e q = e
 
 pub or_no_l : (a b : Bool) → (a || b) ≡ false → a ≡ false
-or_no_l true b e = e
-or_no_l false b e = refl
+or_no_l a b e = (or_parts a b e).0
 
 pub or_no_r : (a b : Bool) → (a || b) ≡ false → b ≡ false
-or_no_r true b e = clash refl e
-or_no_r false b e = e
-
-pub not_true : (a : Bool) → not a ≡ true → a ≡ false
-not_true true e = sym e
-not_true false e = refl
-
-pub not_false : (a : Bool) → not a ≡ false → a ≡ true
-not_false true e = refl
-not_false false e = sym e
-
--- what makes them hold or fail
-pub and_yes : (a b : Bool) → a ≡ true → b ≡ true → (a && b) ≡ true
-and_yes a b e q = rw (e, q)
-
-pub and_no_l : (a b : Bool) → a ≡ false → (a && b) ≡ false
-and_no_l a b e = rw e
-
-pub and_no_r : (a b : Bool) → b ≡ false → (a && b) ≡ false
-and_no_r true b e = e
-and_no_r false b e = refl
-
-pub or_yes_l : (a b : Bool) → a ≡ true → (a || b) ≡ true
-or_yes_l a b e = rw e
-
-pub or_yes_r : (a b : Bool) → b ≡ true → (a || b) ≡ true
-or_yes_r true b e = refl
-or_yes_r false b e = e
-
-pub or_no : (a b : Bool) → a ≡ false → b ≡ false → (a || b) ≡ false
-or_no a b e q = rw (e, q)
-
-pub not_yes : (a : Bool) → a ≡ false → not a ≡ true
-not_yes a e = rw e
-
-pub not_no : (a : Bool) → a ≡ true → not a ≡ false
-not_no a e = rw e
+or_no_r a b e = (or_parts a b e).1
 
 -- two tests are equal where each follows from the other
 pub test_iff : (a b : Bool) → (a ≡ true → b ≡ true) → (b ≡ true → a ≡ true) → a ≡ b
@@ -143,7 +105,7 @@ pub tally_imp : (a b : Bool) → (a ≡ true → b ≡ true) → tally a ≤ tal
 tally_imp true b h = rw (h refl) (omega arith)
 tally_imp false b h = omega arith
 
-pub ruleset test_laws = (and_no_l, and_no_r, and_yes, or_yes_l, or_yes_r, or_no, not_yes, not_no, cond_yes, cond_no, is_same, not_same, is_under, not_under)
+pub ruleset test_laws = (and_left, and_right, and_from, or_left, or_right, or_from, not_from_false, not_from_true, cond_yes, cond_no, is_same, not_same, is_under, not_under)
 
 -- the lowest bit of a number, as a test and as a number
 pub tally_odd : (x : ℕ) → tally (same (x % 2) 1) ≡ x % 2

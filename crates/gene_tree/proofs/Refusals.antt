@@ -5,7 +5,8 @@ use Rattle.std.proofs.Common.{◌≡◌, refl, ◌≢◌, true, false, ◌||◌,
 use Rattle.finite.specs.Tests.{same, under}
 use Rattle.finite.specs.Refusals.{verdict, AllTell, no_more, one_more}
 use Rattle.finite.proofs.Cases.{by_bool, by_eq}
-use Rattle.finite.proofs.Tests.{is_same, same_is, not_same, same_not, under_is, under_not, or_r, or_no_l, or_no_r, not_true, not_false}
+use Rattle.std.proofs.lemmas.Bool.{not-true, not-false}
+use Rattle.finite.proofs.Tests.{is_same, same_is, not_same, same_not, under_is, under_not, or_r, or_no_l, or_no_r}
 use Rattle.finite.proofs.Every.{some_at, not_some}
 use Rattle.finite.proofs.Refusals.{verdict_here, verdict_later}
 use Rattle.tables.proofs.Nexts.{next_is, next_none}
@@ -26,7 +27,7 @@ module _ {K : GeneLines} (t : refusal12 K ≡ false) (g : ℕ) (k : Gene K g) wh
 
   pub gene_first : g ≡ 1 → K.parent g ≡ 0
   unfolding bad_parent
-  gene_first e = let q : not (same (K.parent g) 0) ≡ false = rw (is_same e) at parent_passes in same_is _ _ (not_false _ q)
+  gene_first e = let q : not (same (K.parent g) 0) ≡ false = rw (is_same e) at parent_passes in same_is _ _ (not-false _ q)
 
   other_passes : g ≢ 1 → (same (K.parent g) 0 || not (under (K.parent g) g)) ≡ false
   unfolding bad_parent
@@ -36,28 +37,28 @@ module _ {K : GeneLines} (t : refusal12 K ≡ false) (g : ℕ) (k : Gene K g) wh
   gene_some d = same_not _ _ (or_no_l (same (K.parent g) 0) (not (under (K.parent g) g)) (other_passes d))
 
   pub gene_below : g ≢ 1 → K.parent g < g
-  gene_below d = under_is _ _ (not_false _ (or_no_r (same (K.parent g) 0) (not (under (K.parent g) g)) (other_passes d)))
+  gene_below d = under_is _ _ (not-false _ (or_no_r (same (K.parent g) 0) (not (under (K.parent g) g)) (other_passes d)))
 
   pub gene_two : child_count K g ≢ 0 → child_count K g ≡ 2
   unfolding bad_gene_at bad_count
   gene_two d =
       let c = child_count K g in
-      same_is _ _ (or_r (same c 0) (same c 2) (not_false _ (or_no_r (bad_parent g (K.parent g)) (not (same c 0 || same c 2)) gene_passes)) (not_same d))
+      same_is _ _ (or_r (same c 0) (same c 2) (not-false _ (or_no_r (bad_parent g (K.parent g)) (not (same c 0 || same c 2)) gene_passes)) (not_same d))
 
 module _ (K : GeneLines) where
   parent_told : (g : ℕ) → Gene K g → bad_parent g (K.parent g) ≡ true → Refusal12 K
   unfolding bad_parent
   parent_told g k h = by_eq g 1
       (λ e. let q : not (same (K.parent g) 0) ≡ true = rw (is_same e) at h in
-      first_has_parent (rw e at k) (rw e at (same_not _ _ (not_true _ q))))
+      first_has_parent (rw e at k) (rw e at (same_not _ _ (not-true _ q))))
       (λ d. let q : (same (K.parent g) 0 || not (under (K.parent g) g)) ≡ true = rw (not_same d) at h in
-      by_eq (K.parent g) 0 (λ e. no_parent g k d e) (λ z. parent_not_below g k d (under_not _ _ (not_true _ (or_r (same (K.parent g) 0) _ q (not_same z))))))
+      by_eq (K.parent g) 0 (λ e. no_parent g k d e) (λ z. parent_not_below g k d (under_not _ _ (not-true _ (or_r (same (K.parent g) 0) _ q (not_same z))))))
 
   count_told : (g : ℕ) → Gene K g → bad_count (child_count K g) ≡ true → Refusal12 K
   unfolding bad_count
   count_told g k h =
       let c = child_count K g in
-      let q = not_true (same c 0 || same c 2) h in
+      let q = not-true (same c 0 || same c 2) h in
       children_amiss g k (same_not _ _ (or_no_l (same c 0) (same c 2) q)) (same_not _ _ (or_no_r (same c 0) (same c 2) q))
 
   gene_told : (g : ℕ) → Gene K g → bad_gene_at K g ≡ true → Refusal12 K
@@ -106,7 +107,7 @@ module _ (L : NodeLines) {K : GeneLines} (t : refusal13 L K ≡ false) (g : ℕ)
 
   pub seat_inner : child_count K g ≢ 0 → K.species g ≡ 0
   unfolding bad_species_at bad_species
-  seat_inner d = let q : not (same (K.species g) 0) ≡ false = rw (not_same d) at species_passes in same_is _ _ (not_false _ q)
+  seat_inner d = let q : not (same (K.species g) 0) ≡ false = rw (not_same d) at species_passes in same_is _ _ (not-false _ q)
 
 module _ (L : NodeLines) (K : GeneLines) where
   species_told : (g : ℕ) → Gene K g → bad_species_at L K g ≡ true → Refusal13 L K
@@ -115,7 +116,7 @@ module _ (L : NodeLines) (K : GeneLines) where
       (λ z. by_eq (K.species g) 0 (λ e. leaf_without_species g k z e)
       (λ d. let q : same (bearer L (K.species g)) 0 ≡ true = rw (is_same z) at h in
       leaf_unknown g k z (bearer_none L (K.species g) d (same_is _ _ q))))
-      (λ d. let q : not (same (K.species g) 0) ≡ true = rw (not_same d) at h in inner_with_species g k d (same_not _ _ (not_true _ q)))
+      (λ d. let q : not (same (K.species g) 0) ≡ true = rw (not_same d) at h in inner_with_species g k d (same_not _ _ (not-true _ q)))
 
   from_13 : refusal13 L K ≡ true → Refusal13 L K
   unfolding refusal13

@@ -6,7 +6,7 @@ ghost use Rattle.gene_tree.specs.inner.Work.{ChildCounts};
 
 use super::species::Species;
 use layout::lines::Lines;
-use tables::{Column, child_counts};
+use tables::{Column, ZEROS, child_counts};
 
 // 12: of gene g with the parent p.
 #[tactic(auto, unfolding(crate::specs::Refusals::bad_parent, finite::specs::Tests::same, finite::specs::Tests::under))]
@@ -44,7 +44,7 @@ impl<'a> GeneLines<'a> {
     pub fn counted(lines: &'a Lines) -> GeneLines<'a>
         ensures { result.species.lines.now ≡ lines.now }
     {
-        let mut counts = [0; 128];
+        let mut counts = ZEROS;
         child_counts(lines.header.genes, &lines.genes.parent, &mut counts);
         GeneLines {
             species: Species::noted(lines),

@@ -17,7 +17,7 @@ use layout::genes::Genes;
 use layout::lines::Lines;
 use refusals::Refusal;
 use species::Species;
-use tables::{fill, next_children};
+use tables::{ZEROS, fill, next_children};
 
 // The first of the gene lines' refusals that applies.
 #[tactic(auto, using(finite::proofs::Refusals::verdict_laws), unfolding(crate::specs::Refusals::gene_refusals, crate::specs::Refusals::species_refusals))]
@@ -35,19 +35,19 @@ pub fn verdict(lines: &Lines) -> Result<(), Refusal>
 }
 
 // The gene tree of the lines; a leaf gene sits at the node that bears its species.
+#[tactic(auto, unfolding(finite::specs::Tables::zeros))]
 pub fn build(lines: &Lines) -> Genes
     ensures { gene_tree lines.now.header.genes result ≡ gene_tree_of (nodes_of lines.now) (genes_of lines.now) }
 {
     let m = lines.header.genes;
     let species = Species::noted(lines);
-    let zeros = [0; 128];
     let mut genes = Genes {
-        left: zeros,
-        right: zeros,
-        leaf: zeros,
-        parent: zeros,
+        left: ZEROS,
+        right: ZEROS,
+        leaf: ZEROS,
+        parent: ZEROS,
     };
-    next_children(m, &lines.genes.parent, &zeros, &mut genes.left);
+    next_children(m, &lines.genes.parent, &ZEROS, &mut genes.left);
     next_children(m, &lines.genes.parent, &genes.left, &mut genes.right);
     fill(
         m,

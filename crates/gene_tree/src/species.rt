@@ -6,7 +6,7 @@ ghost use Rattle.gene_tree.specs.Refusals.{bearer, bad_species};
 ghost use Rattle.gene_tree.specs.inner.Work.{Bearers};
 
 use layout::lines::Lines;
-use tables::{Column, next_children};
+use tables::{Column, ZEROS, next_children};
 
 // The lowest node of species s, 0 where there is none, as the definitions and the table of leaves have it. (`1..n + 1`: an inclusive range takes twice as
 // long, see crate finite, proofs/Upto.)
@@ -31,18 +31,19 @@ impl<'a> Species<'a> {
     pub fn noted(lines: &'a Lines) -> Species<'a>
         ensures { result.lines.now ≡ lines.now }
     {
-        let mut lowest = [0; 128];
+        let mut lowest = ZEROS;
         next_children(
             lines.header.nodes,
             &lines.nodes.species,
-            &[0; 128],
+            &ZEROS,
             &mut lowest,
         );
         Species { lines, lowest }
     }
 
     // The node that bears species s, 0 where none does. No species is borne by no node, though other nodes than leaves have 0 there. Species are most
-    // often numbered from 1, so the bearers of the numbers up to n are looked up, and only others are sought.
+    // often numbered from 1, so the bearers of the numbers up to n are looked up, and only others are sought. (As `bearers` of crate `shapes` looks up a
+    // count; a count and a node have not one table.)
     #[tactic(auto, using(crate::proofs::Reading::bearer_noted, crate::proofs::Reading::bearer_sought, crate::proofs::Reading::bearer_low))]
     pub fn bearer(&self, s: usize) -> usize
         ensures { (result ≡ bearer (nodes_of self.now.lines.now) s) × (result ≤ self.now.lines.now.header.nodes) }

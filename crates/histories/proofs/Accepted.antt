@@ -5,7 +5,8 @@ use Rattle.std.proofs.Common.{◌≡◌, sym, ◌∙◌, subst, ◌≢◌, ℕ, 
 use Rattle.finite.specs.Tests.{under}
 use Rattle.finite.specs.Range.{count}
 use Rattle.finite.proofs.Cases.{by_eq, by_less}
-use Rattle.finite.proofs.Tests.{and_no_r, is_same, not_same, is_under, not_under, under_is}
+use Rattle.std.proofs.lemmas.Bool.{and_right}
+use Rattle.finite.proofs.Tests.{is_same, not_same, is_under, not_under, under_is}
 use Rattle.finite.proofs.Count.{count_less, count_le}
 use Rattle.tables.proofs.Nexts.{next_is}
 use Rattle.topology.specs.Networks.{Network, Node}
@@ -37,7 +38,7 @@ module _ (L : NodeLines) (K : GeneLines) (G : GeneTree) (C : Costs) where
 
   out_past : (v : ℕ) → L.size < v → Whole.out v ≡ leaf 0
   unfolding family_of out_of
-  out_past v h = rw (and_no_r (under 0 v) (under v (suc L.size)) (not_under {m = v} {n = suc L.size} (omega arith)))
+  out_past v h = rw (and_right (under 0 v) (under v (suc L.size)) (not_under {m = v} {n = suc L.size} (omega arith)))
 
   pub node_of : (v : ℕ) → 1 ≤ v → v ≤ L.size → Node N v
   unfolding network

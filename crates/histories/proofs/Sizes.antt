@@ -4,7 +4,8 @@ use Rattle.std.proofs.Common.{◌≡◌, refl, sym, ◌≢◌, ◌⊎◌, inl, i
 use Rattle.finite.specs.Tests.{same, tally}
 use Rattle.finite.specs.Range.{count}
 use Rattle.finite.proofs.Cases.{by_eq, by_bool, clash}
-use Rattle.finite.proofs.Tests.{and_l, and_yes, and_no_r, is_same, not_same, not_yes, not_no, tally_yes, tally_no, tally_imp}
+use Rattle.std.proofs.lemmas.Bool.{and_from, and_right, not_from_false, not_from_true}
+use Rattle.finite.proofs.Tests.{and_l, is_same, not_same, tally_yes, tally_no, tally_imp}
 use Rattle.finite.proofs.Sum.{sum_add, sum_le}
 use Rattle.finite.proofs.Count.{count_less, count_le}
 use Rattle.topology.specs.Climbing.{Falls, over}
@@ -69,7 +70,7 @@ module _ (G : GeneTree) (t : Rooted G) where
   size_over a l u = omega (
     arith,
     count_less G.count a (below a) (over number up a) (λ v t. and_l (over number up a v) _ t) l u
-        (and_no_r (over number up a a) (not (same a a)) (not_no (same a a) (is_same {m = a} refl))) (over_self number up up_falls a),
+        (and_right (over number up a a) (not (same a a)) (not_from_true (same a a) (is_same {m = a} refl))) (over_self number up up_falls a),
   )
 
   module _ (g : ℕ) (d : left g ≢ 0) where
@@ -80,7 +81,7 @@ module _ (G : GeneTree) (t : Rooted G) where
     unfolding below
     child_below c u e l p =
         let q = over_trans number up up_falls g c u (over_up number up up_falls g c (rw e (over_self number up up_falls g))) p in
-        and_yes (over number up g u) (not (same g u)) q (not_yes (same g u) (not_same {m = g} {n = u} (λ r. by_eq c u (λ s. omega arith) (λ s. omega (arith, over_low number up up_falls c u p s)))))
+        and_from (over number up g u) (not (same g u)) q (not_from_false (same g u) (not_same {m = g} {n = u} (λ r. by_eq c u (λ s. omega arith) (λ s. omega (arith, over_low number up up_falls c u p s)))))
 
     -- a gene's size exceeds its children's together
     pub size_splits : size (left g) + size (right g) < size g

@@ -6,8 +6,9 @@ use mathlib.Core.Option.{some}
 use Rattle.finite.specs.Tests.{same, under, tally}
 use Rattle.finite.specs.Range.{count, children}
 use Rattle.finite.proofs.Cases.{by_eq, by_less, clash, measure}
-use Rattle.finite.proofs.Tests.{and_l, and_r, and_yes, and_no_r, is_same, not_same, is_under, not_under, under_is, not_yes, not_no, tally_yes, tally_no}
-use Rattle.finite.proofs.Count.{count_less, count_imp, count_two, zero_count, branchings}
+use Rattle.std.proofs.lemmas.Bool.{and_from, and_right, not_from_false, not_from_true}
+use Rattle.finite.proofs.Tests.{and_l, and_r, is_same, not_same, is_under, not_under, under_is, tally_yes, tally_no}
+use Rattle.finite.proofs.Count.{count_less, count_imp, count_two, count_three, zero_count, branchings}
 use Rattle.tables.proofs.Nexts.{next_is, next_none, next_low}
 use Rattle.topology.specs.Lines.{NodeLines, GeneLines, network}
 use Rattle.reconciliation.specs.GeneTrees.{GeneTree}
@@ -20,20 +21,6 @@ use Rattle.histories.proofs.Least.{overall_at_most}
 use Rattle.histories.proofs.Outs.{out_leaf, out_two, out_mixed, out_one}
 use Rattle.histories.proofs.Sizes.{size, size_low, size_le, size_splits}
 use Rattle.histories.proofs.Accepted.{Whole, N, out_at, node_of, gene_tip, gene_pair, rank_principal, graded}
-
--- three that pass are counted
-count_three : (n a b c : ℕ) (f : ℕ → Bool) → 1 ≤ a → a < b → b < c → c ≤ n → f a ≡ true → f b ≡ true → f c ≡ true → 3 ≤ count n f
-count_three n a b c f la ab bc uc fa fb fc = omega (
-  arith,
-  count_two n a b but la (omega arith) (omega arith) (omega arith) (λ e. omega arith) (keeps a fa (λ e. omega arith)) (keeps b fb (λ e. omega arith)),
-  count_less n c but f (λ w t. and_l (f w) (not (same w c)) t) (omega arith) uc (and_no_r (f c) (not (same c c)) (not_no (same c c) (is_same {m = c} refl))) fc,
-)
-  where
-    but : ℕ → Bool
-    but w = f w && not (same w c)
-
-    keeps : (w : ℕ) → f w ≡ true → w ≢ c → but w ≡ true
-    keeps w t d = and_yes (f w) (not (same w c)) t (not_yes (same w c) (not_same d))
 
 -- the children of a number p that has at most two: x is one of them
 module _ (n : ℕ) (parent : ℕ → ℕ) (p x : ℕ) (few : children n parent p ≤ 2) (lx : 1 ≤ x) (ux : x ≤ n) (e : parent x ≡ p) where
@@ -60,7 +47,7 @@ module _ (n : ℕ) (parent : ℕ → ℕ) (p x : ℕ) (few : children n parent p
       let fa = next_is n parent 0 p has_first in
       let fb = next_is n parent a p some in
       let lb : b < x = by_less x b (λ k. absurd (next_low n parent a p x lower k e)) (λ k. omega arith) in
-      absurd (omega (arith, count_three n a b x (λ w. same (parent w) p) (omega arith) fb.1 lb ux (is_same fa.2) (is_same fb.2) (is_same e))))
+      absurd (omega (arith, count_three n a b x (λ w. same (parent w) p) (omega arith) (omega arith) (omega arith) (omega arith) lx ux (λ q. omega arith) (λ q. omega arith) (λ q. omega arith) (is_same fa.2) (is_same fb.2) (is_same e))))
 
 module _ (L : NodeLines) (K : GeneLines) (G : GeneTree) (C : Costs) (ok : Accepted L K G C) where
   abbrev F : Family
@@ -125,12 +112,12 @@ module _ (L : NodeLines) (K : GeneLines) (G : GeneTree) (C : Costs) (ok : Accept
 
   over_fork : (p x : ℕ) → 1 ≤ p → p ≤ L.size → level p < level x → forks p ≡ true → over p < over x
   unfolding over
-  over_fork p x lp up r f = count_less L.size p _ _ (λ w q. and_yes (forks w) _ (and_l (forks w) _ q) (is_under (omega (arith, under_is (level w) (level p) (and_r (forks w) _ q))))) lp up
-      (and_no_r (forks p) _ (not_under {m = level p} {n = level p} (omega arith))) (and_yes (forks p) _ f (is_under r))
+  over_fork p x lp up r f = count_less L.size p _ _ (λ w q. and_from (forks w) _ (and_l (forks w) _ q) (is_under (omega (arith, under_is (level w) (level p) (and_r (forks w) _ q))))) lp up
+      (and_right (forks p) _ (not_under {m = level p} {n = level p} (omega arith))) (and_from (forks p) _ f (is_under r))
 
   over_other : (p x : ℕ) → level p < level x → over p ≤ over x
   unfolding over
-  over_other p x r = count_imp L.size _ _ (λ w q. and_yes (forks w) _ (and_l (forks w) _ q) (is_under (omega (arith, under_is (level w) (level p) (and_r (forks w) _ q)))))
+  over_other p x r = count_imp L.size _ _ (λ w q. and_from (forks w) _ (and_l (forks w) _ q) (is_under (omega (arith, under_is (level w) (level p) (and_r (forks w) _ q)))))
 
   abbrev root : ℕ
   root = ok.sound.root
@@ -167,18 +154,18 @@ module _ (L : NodeLines) (K : GeneLines) (G : GeneTree) (C : Costs) (ok : Accept
       (λ z. let i = free g (L.principal x) x lp up lx ux refl h z in
       ih (L.principal x) r lp up k i.0 (omega (arith, i.1)) (omega (arith, over_other (L.principal x) x r)))
       (λ z. let i = lose g (L.principal x) x lp up lx ux refl h z in
-      ih (L.principal x) r lp up (suc k) i.0 (omega (arith, i.1, mul-suc C.loss k)) (omega (arith, over_fork (L.principal x) x lp up r (not_yes (same _ 0) (not_same z)))))))
+      ih (L.principal x) r lp up (suc k) i.0 (omega (arith, i.1, mul-suc C.loss k)) (omega (arith, over_fork (L.principal x) x lp up r (not_from_false (same _ 0) (not_same z)))))))
 
   twice : (v : ℕ) → 2 * tally (forks v) ≤ children L.size L.principal v
   unfolding forks children first_child second_child
   twice v = by_eq (second_child L v) 0
-      (λ e. omega (arith, tally_no (forks v) (not_no (same (second_child L v) 0) (is_same e))))
+      (λ e. omega (arith, tally_no (forks v) (not_from_true (same (second_child L v) 0) (is_same e))))
       (λ e. let q = next_is L.size L.principal (first_child L v) v e in
       let r : first_child L v ≢ 0 = λ z. next_none L.size L.principal 0 v z (second_child L v) (omega arith) q.0 q.2 in
       let p = next_is L.size L.principal 0 v r in
       omega (
         arith,
-        tally_yes (forks v) (not_yes (same (second_child L v) 0) (not_same e)),
+        tally_yes (forks v) (not_from_false (same (second_child L v) 0) (not_same e)),
         count_two L.size (first_child L v) (second_child L v) (λ w. same (L.principal w) v) (omega arith) p.0 (omega arith) q.0 (λ z. omega arith) (is_same p.2) (is_same q.2),
       ))
 

@@ -7,7 +7,8 @@ use std::io;
 use std::io::Read;
 
 // Reads until what is lent is full, or to the end of the input. How many bytes that is fits what is lent, which keeps its length, after a failed read too.
-// (A `while`: it counts what a source gave, and no iterator reads so into what is lent.)
+// (A `while`: no function of the library reads so into what is lent. `std::io::copy` over `take` promises nothing of the length after an error, and copies
+// through a buffer of its own.)
 pub fn read_full<R: Read>(mut source: R, into: &mut [u8]) -> io::Result<usize>
 where
     R: Drop,

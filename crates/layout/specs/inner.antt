@@ -3,3 +3,4 @@ pub mod Choices
 pub mod Tree
 pub mod Genes
 pub mod Results
+pub mod Props

@@ -1,4 +1,4 @@
-// What happens at a gene. An event has a number, which is what its line of the report tells.
+// What happens at a gene. An event has a number, which is what a gene's line of the report tells.
 ghost use Rattle.std.specs.Prelude.{◌≡◌};
 ghost use Rattle.layout.specs.Events.{number};
 
@@ -11,6 +11,7 @@ pub enum Event {
 }
 
 impl Event {
+    // A method and no `From`: laws speak of an event's number under this name, and `u32::from` would hide which number it is.
     pub fn number(self) -> u32
         ensures { result ≡ number self }
     {

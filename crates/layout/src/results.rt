@@ -1,5 +1,6 @@
 // What the report says of each gene: its place, its event, the transfers and the losses on its way.
 use crate::events::Event;
+use tables::ENTRIES;
 
 #[derive(Clone, Copy)]
 pub struct Placed {
@@ -10,7 +11,7 @@ pub struct Placed {
 }
 
 // By gene: entry k is about gene k, entry 0 about none.
-pub type Results = [Placed; 128];
+pub type Results = [Placed; ENTRIES];
 
 // A gene of which nothing is known yet: a value that every gene's is written over before it is read, so that no Option is asked at each reading.
 pub const UNPLACED: Placed = Placed {

@@ -30,7 +30,7 @@ use Rattle.displayed.proofs.Children.{root_transfers, root_losses, child_transfe
 use Rattle.displayed.proofs.Events.{event_leaf, event_inner, duplication_inner}
 use Rattle.displayed.proofs.Gathering.{by_parents}
 use Rattle.displayed.proofs.Bounds.{duplications_few, transfers_few, losses_under}
-use Rattle.mapping.specs.inner.Climbs.{tree_of, Climbable}
+use Rattle.mapping.specs.inner.Climbs.{tree_of}
 use Rattle.mapping.specs.inner.Pairs.{event_by, Paired}
 use Rattle.mapping.specs.inner.Evaluation.{Family, LeavesUpto, Lent, Seats, seated_by, sent_to, noted_by, Room, raised_by, Counted, total_of, score_of, of_children, Upto, Evaluated}
 use Rattle.mapping.specs.declared.Steps.{Steps}
@@ -266,12 +266,18 @@ module _ {h : Header} {t : Table} {g : Genes} (F : Family h t g) where
   }
 
   -- gene k is next
-  module _ {k : ℕ} (low : 1 ≤ k) (high : k ≤ h.genes) {r : List Placed} {s : Score} (u : Upto T G (costs h) k r s) where
+  module _ {k : ℕ} (next : (1 ≤ k) × (k ≤ h.genes)) {r : List Placed} {s : Score} (u : Upto T G (costs h) k r s) where
+    low : 1 ≤ k
+    low = next.0
+
+    high : k ≤ h.genes
+    high = next.1
+
     lk : k < 128
-    lk = omega (arith, F.limits.few_genes)
+    lk = omega (arith, high, F.limits.few_genes)
 
     lg : k ≤ G.count
-    lg = omega (arith, count_is)
+    lg = omega (arith, high, count_is)
 
     duplications_low : s.duplications ≤ 63
     duplications_low = omega (arith, u.duplications, all_duplications)
@@ -288,7 +294,7 @@ module _ {h : Header} {t : Table} {g : Genes} (F : Family h t g) where
       not_parent : (j : ℕ) → G.parent j ≢ k
       not_parent j q = F.rooted.parent_inner j (λ z. omega arith) (ap G.left q ∙ e)
 
-      pub upto_leaf : Upto T G (costs h) (k - 1) r s
+      upto_leaf : Upto T G (costs h) (k - 1) r s
       upto_leaf = record {
         lent = u.lent;
         places = λ j a b. by_eq j k (λ p. rw p (u.lent.leaf_places k low lg e ∙ sym (place_leaf T G F.rooted k e))) (λ d. u.places j (omega arith) b);
@@ -333,13 +339,13 @@ module _ {h : Header} {t : Table} {g : Genes} (F : Family h t g) where
       place_b : R.place r b ≡ place T G b
       place_b = u.places b above_b in_b
 
-      pub seats : Seats h.nodes t r a b
+      seats : Seats h.nodes t r a b
       seats = record {
         left = rw place_a (place_node T ok G F.rooted F.seated a (omega (arith, above_a)) in_a);
         right = rw place_b (place_node T ok G F.rooted F.seated b (omega (arith, above_b)) in_b);
       }
 
-      pub inner_few : (k ≤ 127) × (a ≤ 127) × (b ≤ 127)
+      inner_few : (k ≤ 127) × (a ≤ 127) × (b ≤ 127)
       inner_few = (omega (arith, lk), omega (arith, in_a, genes_few), omega (arith, in_b, genes_few))
 
       module _ (p : Pair) (i : Paired T (R.place r a) (R.place r b) p) where
@@ -381,7 +387,7 @@ module _ {h : Header} {t : Table} {g : Genes} (F : Family h t g) where
         more_losses : p.left.losses + p.right.losses ≡ of_children G (losses T G) k
         more_losses = rw (left_way.1, right_way.1) (of_children_lem (losses T G))
 
-        pub room : Room h s p
+        room : Room h s p
         room = record {
           duplication = F.limits.duplication;
           duplications = omega (arith, duplications_low);
@@ -451,18 +457,15 @@ module _ {h : Header} {t : Table} {g : Genes} (F : Family h t g) where
             charged : s.cost + h.duplication * tally (same (number p.event) 2) ≡ (costs h).duplication * (s.duplications + tally (same (number p.event) 2))
             charged = sym (mul-add (costs h).duplication s.duplications (tally (same (number p.event) 2)) ∙ rw (← u.cost))
 
-        pub upto_inner : (v : List Placed) (e : Score) → v ≡ noted_by r k a b p → e ≡ raised_by h s p → Upto T G (costs h) (k - 1) v e
-        upto_inner v e q x = rw x (noted v q)
-
     -- the same with the children as the table has them
     pub leaf_turn : L.left g k ≡ 0 → Upto T G (costs h) (k - 1) r s
     unfolding gene_tree
     leaf_turn e = upto_leaf e
 
     module _ (d : L.left g k ≢ 0) where
-      pub inner_fits : Climbable h.nodes t × Seats h.nodes t r (L.left g k) (L.right g k) × (k ≤ 127) × (L.left g k ≤ 127) × (L.right g k ≤ 127)
+      pub inner_fits : Seats h.nodes t r (L.left g k) (L.right g k) × (k ≤ 127) × (L.left g k ≤ 127) × (L.right g k ≤ 127)
       unfolding gene_tree
-      inner_fits = let f = inner_few d in (F.tree, seats d, f.0, f.1, f.2)
+      inner_fits = let f = inner_few d in (seats d, f.0, f.1, f.2)
 
       module _ {p : Pair} (i : Paired T (R.place r (L.left g k)) (R.place r (L.right g k)) p) where
         pub inner_room : Room h s p
@@ -471,7 +474,7 @@ module _ {h : Header} {t : Table} {g : Genes} (F : Family h t g) where
 
         pub inner_turn : {x : List Placed} {e : Score} → x ≡ noted_by r k (L.left g k) (L.right g k) p → e ≡ raised_by h s p → Upto T G (costs h) (k - 1) x e
         unfolding gene_tree
-        inner_turn {x} {e} q w = upto_inner d p i x e q w
+        inner_turn {x} q w = rw w (noted d p i x q)
 
   -- after the last gene
   module _ {r : List Placed} {s : Score} {k : ℕ} (none : k ≤ 0) (u : Upto T G (costs h) k r s) where

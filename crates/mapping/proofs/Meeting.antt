@@ -6,6 +6,7 @@ use Rattle.finite.specs.Tests.{same, tally}
 use Rattle.finite.proofs.Tests.{tally_le}
 use Rattle.topology.proofs.Climbing.{meet_over_left, meet_over_right}
 use Rattle.layout.specs.inner.Tree.{up, lateral, rank, arcs}
+use Rattle.layout.specs.inner.Tree.{rank as rank_at}
 use Rattle.layout.specs.declared.tree.Tree.{Tree as Table}
 use Rattle.displayed.specs.Displayed.{Displayed, NodeOf, Tree, reaches, common, way}
 use Rattle.displayed.specs.inner.Arcs.{move, mark}
@@ -14,10 +15,10 @@ use Rattle.displayed.proofs.Trees.{common_node}
 use Rattle.displayed.proofs.Ways.{way_le}
 use Rattle.displayed.proofs.Tabled.{read_up, read_rank, read_lateral, read_forks}
 use Rattle.displayed.proofs.Meeting as M
-use Rattle.mapping.specs.inner.Climbs.{fork_in, tree_of, Climbable, Light, climbed_by, Meeting}
-use Rattle.mapping.specs.declared.Way.{Way}
+use Rattle.mapping.specs.inner.Climbs.{fork_in, tree_of, Climbable, Light, starting, climbed_by, Meeting}
+use Rattle.mapping.specs.declared.Climber.{Climber}
 
-pub fork_le : (t : Table) (v : ℕ) → fork_in t v ≤ 1
+fork_le : (t : Table) (v : ℕ) → fork_in t v ≤ 1
 unfolding fork_in
 fork_le t v = tally_le (same (arcs t v) 2)
 
@@ -25,23 +26,21 @@ fork_le t v = tally_le (same (arcs t v) 2)
 abbrev moves : Table → ℕ → ℕ
 moves t v = tally (lateral t v)
 
--- no arc is climbed yet
-abbrev pub Still : Way → Type 0
-Still w = (w.transfers ≡ 0) × ((w.losses ≡ 0) × (w.last ≡ 0))
+-- a climber from x, where b is above x: its rank is that of the table, and what it has counted and what lies ahead of it make up the whole way
+pub record Side (T : Displayed) (t : Table) (b x : ℕ) (c : Climber) : Type 0 where
+  pub rank : c.rank ≡ rank_at t c.at
+  pub transfers : c.way.transfers + way T (move T) b c.at ≡ way T (move T) b x
+  pub losses : c.way.losses + way T (mark T) b c.at ≡ way T (mark T) b x
 
--- the climbers of x and y stand at a and b, whose ranks are p and q
-pub record Climbing (T : Displayed) (t : Table) (x y a b : ℕ) (l r : Way) (p q : ℕ) : Type 0 where
-  pub climbs : M.Climb T x y a b l.last r.last
-  pub left_rank : p ≡ rank t a
-  pub right_rank : q ≡ rank t b
-  pub left_transfers : l.transfers + way T (move T) (common T x y) a ≡ way T (move T) (common T x y) x
-  pub left_losses : l.losses + way T (mark T) (common T x y) a ≡ way T (mark T) (common T x y) x
-  pub right_transfers : r.transfers + way T (move T) (common T x y) b ≡ way T (move T) (common T x y) y
-  pub right_losses : r.losses + way T (mark T) (common T x y) b ≡ way T (mark T) (common T x y) y
+-- the climbers of x and y
+pub record Climbing (T : Displayed) (t : Table) (x y : ℕ) (l r : Climber) : Type 0 where
+  pub climbs : M.Climb T x y l.at r.at l.way.last r.way.last
+  pub left : Side T t (common T x y) x l
+  pub right : Side T t (common T x y) y r
 
 -- what the table tells at a node
 module _ (n : ℕ) (t : Table) (K : Climbable n t) (a : ℕ) (k : NodeOf (tree_of n t) a) where
-  pub node_low : 1 ≤ a
+  node_low : 1 ≤ a
   node_low = k.low
 
   pub node_high : a ≤ n
@@ -52,11 +51,11 @@ module _ (n : ℕ) (t : Table) (K : Climbable n t) (a : ℕ) (k : NodeOf (tree_o
   unfolding tree_of
   up_is = read_up n (up t) (rank t) (moves t) (fork_in t) a node_low node_high
 
-  pub rank_is : (tree_of n t).rank a ≡ rank t a
+  rank_is : (tree_of n t).rank a ≡ rank t a
   unfolding tree_of
   rank_is = read_rank n (up t) (rank t) (moves t) (fork_in t) a node_low (K.ranks a node_low node_high)
 
-  pub move_is : tally (lateral t a) ≡ move (tree_of n t) a
+  move_is : tally (lateral t a) ≡ move (tree_of n t) a
   unfolding tree_of
   move_is = sym (read_lateral n (up t) (rank t) (moves t) (fork_in t) a (tally_le (lateral t a)))
 
@@ -64,29 +63,32 @@ module _ (n : ℕ) (t : Table) (K : Climbable n t) (a : ℕ) (k : NodeOf (tree_o
   unfolding tree_of
   mark_is = sym (ap (λ (v : ℕ). tally ((tree_of n t).forks v)) up_is ∙ read_forks n (up t) (rank t) (moves t) (fork_in t) (up t a) (fork_le t (up t a)))
 
-  pub node_few : a ≤ 127
+  node_few : a ≤ 127
   node_few = omega (arith, node_high, K.few)
 
   up_few : up t a ≤ 127
   up_few = omega (arith, K.ups a, K.few)
 
-module _ {n : ℕ} {t : Table} {x y : ℕ} (K : Climbable n t) (kx : NodeOf (tree_of n t) x) (ky : NodeOf (tree_of n t) y) where
+module _ {n : ℕ} {t : Table} {x y : ℕ} (K : Climbable n t) (nodes : NodeOf (tree_of n t) x × NodeOf (tree_of n t) y) where
   abbrev T : Displayed
   T = tree_of n t
+
+  kx : NodeOf T x
+  kx = nodes.0
+
+  ky : NodeOf T y
+  ky = nodes.1
 
   ok : Tree T
   ok = K.tree
 
-  pub climbing_start : {l r : Way} → Still l → Still r → Climbing T t x y x y l r (rank t x) (rank t y)
-  climbing_start zl zr = record {
-    climbs = rw (zl.1.1, zr.1.1) (M.meet_start T ok x y kx ky);
-    left_rank = refl;
-    right_rank = refl;
-    left_transfers = omega (arith, zl.0);
-    left_losses = omega (arith, zl.1.0);
-    right_transfers = omega (arith, zr.0);
-    right_losses = omega (arith, zr.1.0);
-  }
+  pub climbing_start : {l r : Climber} → l ≡ starting t x → r ≡ starting t y → Climbing T t x y l r
+  unfolding starting
+  climbing_start el er = rw (el, er) (record {
+    climbs = M.meet_start T ok x y kx ky;
+    left = record { rank = refl; transfers = omega arith; losses = omega arith };
+    right = record { rank = refl; transfers = omega arith; losses = omega arith };
+  })
 
   -- a whole way has at most n transfers and n losses
   meeting : NodeOf T (common T x y)
@@ -111,89 +113,87 @@ module _ {n : ℕ} {t : Table} {x y : ℕ} (K : Climbable n t) (kx : NodeOf (tre
   mark_le : (c : ℕ) → mark T c ≤ 1
   mark_le c = tally_le (T.forks (T.up c))
 
-  module _ {a b : ℕ} {l r : Way} {p q : ℕ} (c : Climbing T t x y a b l r p q) where
-    ka : NodeOf T a
+  -- what a climber has counted is no more than its whole way
+  light : {z : ℕ} {c : Climber} → ((f : ℕ → ℕ) → ((v : ℕ) → f v ≤ 1) → way T f (common T x y) z ≤ 127) → Side T t (common T x y) z c → Light c.way
+  light few s = record { transfers = omega (arith, s.transfers, few (move T) move_le); losses = omega (arith, s.losses, few (mark T) mark_le) }
+
+  module _ {l r : Climber} (c : Climbing T t x y l r) where
+    ka : NodeOf T l.at
     ka = c.climbs.left.node
 
-    kb : NodeOf T b
+    kb : NodeOf T r.at
     kb = c.climbs.right.node
 
-    left_light : Light l
-    left_light = record { transfers = omega (arith, c.left_transfers, left_few (move T) move_le); losses = omega (arith, c.left_losses, left_few (mark T) mark_le) }
+    -- either may climb
+    pub climbs_left : (l.at ≤ 127) × (up t l.at ≤ 127) × Light l.way
+    climbs_left = (node_few n t K l.at ka, up_few n t K l.at ka, light left_few c.left)
 
-    right_light : Light r
-    right_light = record { transfers = omega (arith, c.right_transfers, right_few (move T) move_le); losses = omega (arith, c.right_losses, right_few (mark T) mark_le) }
-
-    pub left_low : a ≤ 127
-    left_low = node_few n t K a ka
+    pub climbs_right : (r.at ≤ 127) × (up t r.at ≤ 127) × Light r.way
+    climbs_right = (node_few n t K r.at kb, up_few n t K r.at kb, light right_few c.right)
 
     -- the ranks of the table are the tree's
-    ranks : (T.rank a ≡ p) × (T.rank b ≡ q)
-    ranks = (rank_is n t K a ka ∙ sym c.left_rank, rank_is n t K b kb ∙ sym c.right_rank)
+    ranks : (T.rank l.at ≡ l.rank) × (T.rank r.at ≡ r.rank)
+    ranks = (rank_is n t K l.at ka ∙ sym c.left.rank, rank_is n t K r.at kb ∙ sym c.right.rank)
 
     -- the climber of x stands no higher, and climbs
-    module _ (h : q ≤ p) (d : a ≢ b) where
-      lower : T.rank b ≤ T.rank a
+    module _ (h : r.rank ≤ l.rank) (d : l.at ≢ r.at) where
+      lower : T.rank r.at ≤ T.rank l.at
       lower = omega (arith, ranks.0, ranks.1)
 
-      up_a : up t a ≡ T.up a
-      up_a = sym (up_is n t K a ka)
+      up_a : up t l.at ≡ T.up l.at
+      up_a = sym (up_is n t K l.at ka)
 
-      pub climbs_left : (a ≤ 127) × (up t a ≤ 127) × Light l
-      climbs_left = (node_few n t K a ka, up_few n t K a ka, left_light)
-
-      pub climbing_left : {w : Way} → w ≡ climbed_by t l a → Climbing T t x y (up t a) b w r (rank t (up t a)) q
+      pub climbing_left : {w : Climber} → w ≡ climbed_by t l → Climbing T t x y w r
       unfolding climbed_by
       climbing_left e = rw e (record {
-        climbs = M.turn_left T ok x y a b l.last r.last kx ky c.climbs (up t a) lower d up_a;
-        left_rank = refl;
-        right_rank = c.right_rank;
-        left_transfers = M.sum_left T ok x y a b l.last r.last kx ky c.climbs (move T) l.transfers _ _ (up t a) c.left_transfers lower d (move_is n t K a ka) up_a;
-        left_losses = M.sum_left T ok x y a b l.last r.last kx ky c.climbs (mark T) l.losses _ _ (up t a) c.left_losses lower d (mark_is n t K a ka) up_a;
-        right_transfers = c.right_transfers;
-        right_losses = c.right_losses;
+        climbs = M.turn_left T ok x y l.at r.at l.way.last r.way.last kx ky c.climbs (up t l.at) lower d up_a;
+        left = record {
+          rank = refl;
+          transfers = M.sum_left T ok x y l.at r.at l.way.last r.way.last kx ky c.climbs (move T) l.way.transfers _ _ (up t l.at) c.left.transfers lower d (move_is n t K l.at ka) up_a;
+          losses = M.sum_left T ok x y l.at r.at l.way.last r.way.last kx ky c.climbs (mark T) l.way.losses _ _ (up t l.at) c.left.losses lower d (mark_is n t K l.at ka) up_a;
+        };
+        right = c.right;
       })
 
-      pub falls_left : T.rank (up t a) + T.rank b < T.rank a + T.rank b
-      falls_left = M.less_left T ok x y a b l.last r.last kx ky c.climbs (up t a) lower d up_a
+      pub falls_left : {w : Climber} → w ≡ climbed_by t l → T.rank w.at + T.rank r.at < T.rank l.at + T.rank r.at
+      unfolding climbed_by
+      falls_left e = rw e (M.less_left T ok x y l.at r.at l.way.last r.way.last kx ky c.climbs (up t l.at) lower d up_a)
 
     -- the climber of y stands lower, and climbs
-    module _ (h : p < q) where
-      higher : T.rank a < T.rank b
+    module _ (h : l.rank < r.rank) where
+      higher : T.rank l.at < T.rank r.at
       higher = omega (arith, ranks.0, ranks.1)
 
-      up_b : up t b ≡ T.up b
-      up_b = sym (up_is n t K b kb)
+      up_b : up t r.at ≡ T.up r.at
+      up_b = sym (up_is n t K r.at kb)
 
-      pub climbs_right : (b ≤ 127) × (up t b ≤ 127) × Light r
-      climbs_right = (node_few n t K b kb, up_few n t K b kb, right_light)
-
-      pub climbing_right : {w : Way} → w ≡ climbed_by t r b → Climbing T t x y a (up t b) l w p (rank t (up t b))
+      pub climbing_right : {w : Climber} → w ≡ climbed_by t r → Climbing T t x y l w
       unfolding climbed_by
       climbing_right e = rw e (record {
-        climbs = M.turn_right T ok x y a b l.last r.last kx ky c.climbs (up t b) higher up_b;
-        left_rank = c.left_rank;
-        right_rank = refl;
-        left_transfers = c.left_transfers;
-        left_losses = c.left_losses;
-        right_transfers = M.sum_right T ok x y a b l.last r.last kx ky c.climbs (move T) r.transfers _ _ (up t b) c.right_transfers higher (move_is n t K b kb) up_b;
-        right_losses = M.sum_right T ok x y a b l.last r.last kx ky c.climbs (mark T) r.losses _ _ (up t b) c.right_losses higher (mark_is n t K b kb) up_b;
+        climbs = M.turn_right T ok x y l.at r.at l.way.last r.way.last kx ky c.climbs (up t r.at) higher up_b;
+        left = c.left;
+        right = record {
+          rank = refl;
+          transfers = M.sum_right T ok x y l.at r.at l.way.last r.way.last kx ky c.climbs (move T) r.way.transfers _ _ (up t r.at) c.right.transfers higher (move_is n t K r.at kb) up_b;
+          losses = M.sum_right T ok x y l.at r.at l.way.last r.way.last kx ky c.climbs (mark T) r.way.losses _ _ (up t r.at) c.right.losses higher (mark_is n t K r.at kb) up_b;
+        };
       })
 
-      pub falls_right : T.rank a + T.rank (up t b) < T.rank a + T.rank b
-      falls_right = M.less_right T ok x y a b l.last r.last kx ky c.climbs (up t b) higher up_b
+      pub falls_right : {w : Climber} → w ≡ climbed_by t r → T.rank l.at + T.rank w.at < T.rank l.at + T.rank r.at
+      unfolding climbed_by
+      falls_right e = rw e (M.less_right T ok x y l.at r.at l.way.last r.way.last kx ky c.climbs (up t r.at) higher up_b)
 
-    pub climbing_done : a ≡ b → Meeting T x y (record { node = a; left = l; right = r })
+    pub climbing_done : l.at ≡ r.at → Meeting T x y (record { node = l.at; left = l.way; right = r.way })
     climbing_done e = record {
-      node = M.done_node T ok x y a b l.last r.last kx ky c.climbs e;
+      node = M.done_node T ok x y l.at r.at l.way.last r.way.last kx ky c.climbs e;
       left = record {
-        transfers = M.sum_left_done T ok x y a b l.last r.last kx ky c.climbs (move T) l.transfers _ e c.left_transfers;
-        losses = M.sum_left_done T ok x y a b l.last r.last kx ky c.climbs (mark T) l.losses _ e c.left_losses;
-        last = M.done_left T ok x y a b l.last r.last kx ky c.climbs e;
+        transfers = M.sum_left_done T ok x y l.at r.at l.way.last r.way.last kx ky c.climbs (move T) l.way.transfers _ e c.left.transfers;
+        losses = M.sum_left_done T ok x y l.at r.at l.way.last r.way.last kx ky c.climbs (mark T) l.way.losses _ e c.left.losses;
+        last = M.done_left T ok x y l.at r.at l.way.last r.way.last kx ky c.climbs e;
       };
       right = record {
-        transfers = M.sum_right_done T ok x y a b l.last r.last kx ky c.climbs (move T) r.transfers _ e c.right_transfers;
-        losses = M.sum_right_done T ok x y a b l.last r.last kx ky c.climbs (mark T) r.losses _ e c.right_losses;
-        last = M.done_right T ok x y a b l.last r.last kx ky c.climbs e;
+        transfers = M.sum_right_done T ok x y l.at r.at l.way.last r.way.last kx ky c.climbs (move T) r.way.transfers _ e c.right.transfers;
+        losses = M.sum_right_done T ok x y l.at r.at l.way.last r.way.last kx ky c.climbs (mark T) r.way.losses _ e c.right.losses;
+        last = M.done_right T ok x y l.at r.at l.way.last r.way.last kx ky c.climbs e;
       };
     }

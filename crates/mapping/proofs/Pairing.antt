@@ -4,7 +4,8 @@
 use Rattle.std.proofs.Common.{◌≡◌, refl, sym, ◌∙◌, ap, ◌≢◌, ◌⊎◌, inl, inr, Bool, true, false, cond, ◌||◌, ℕ, ◌≤◌, arith}
 use Rattle.finite.specs.Tests.{same}
 use Rattle.finite.proofs.Cases.{by_eq, by_bool, clash}
-use Rattle.finite.proofs.Tests.{is_same, not_same, and_yes}
+use Rattle.std.proofs.lemmas.Bool.{and_from}
+use Rattle.finite.proofs.Tests.{is_same, not_same}
 use Rattle.topology.proofs.Climbing.{meet_spec, meet_over_left, meet_over_right}
 use Rattle.layout.specs.Events.{number}
 use Rattle.layout.specs.inner.Tree.{up, lateral}
@@ -26,7 +27,7 @@ use Rattle.mapping.specs.declared.Steps.{Steps}
 use Rattle.mapping.proofs.Meeting.{node_high, up_is, mark_is}
 
 -- the event is a duplication just where a child stays
-pub stays_or_not : (sent : Bool) (b x y : ℕ) → same (event_by sent b x y) 2 ≡ (same x b || same y b)
+stays_or_not : (sent : Bool) (b x y : ℕ) → same (event_by sent b x y) 2 ≡ (same x b || same y b)
 unfolding event_by
 stays_or_not sent b x y = by_bool (same x b || same y b) (λ h. rw h (is_same {m = 2} refl)) (λ h. rw h (other sent))
   where
@@ -34,9 +35,15 @@ stays_or_not sent b x y = by_bool (same x b || same y b) (λ h. rw h (is_same {m
     other true = not_same (λ e. omega arith)
     other false = not_same (λ e. omega arith)
 
-module _ {n : ℕ} {t : Table} {x y : ℕ} (K : Climbable n t) (kx : NodeOf (tree_of n t) x) (ky : NodeOf (tree_of n t) y) where
+module _ {n : ℕ} {t : Table} {x y : ℕ} (K : Climbable n t) (nodes : NodeOf (tree_of n t) x × NodeOf (tree_of n t) y) where
   abbrev T : Displayed
   T = tree_of n t
+
+  kx : NodeOf T x
+  kx = nodes.0
+
+  ky : NodeOf T y
+  ky = nodes.1
 
   abbrev b : ℕ
   b = common T x y
@@ -100,7 +107,7 @@ module _ {n : ℕ} {t : Table} {x y : ℕ} (K : Climbable n t) (kx : NodeOf (tre
     two q =
         let s : c ≢ 0 = (departing T ok b x over_x dx).some in
         let both : reaches T c b ≡ true =
-        sym (meet_spec T.rank T.up ok.falls c x y s) ∙ and_yes _ _ (departing T ok b x over_x dx).over (ap (λ (k : ℕ). reaches T k y) q ∙ (departing T ok b y over_y dy).over) in
+        sym (meet_spec T.rank T.up ok.falls c x y s) ∙ and_from _ _ (departing T ok b x over_x dx).over (ap (λ (k : ℕ). reaches T k y) q ∙ (departing T ok b y over_y dy).over) in
         clash (ap (reaches T c) from_c ∙ both) (not_below T ok c s)
 
     one_of : (e : ℕ) → NodeOf T e → T.up e ≡ b → (e ≡ c) ⊎ (e ≡ d)
@@ -112,7 +119,7 @@ module _ {n : ℕ} {t : Table} {x y : ℕ} (K : Climbable n t) (kx : NodeOf (tre
     unfolding tree_of tree_in
     lateral_is e = by_bool (lateral t e) (λ y. rw y (sym (is_same {m = 1} refl))) (λ f. rw f (sym (not_same {m = 0} {n = 1} (λ q. omega arith))))
 
-    pub sends_last : sent_by t c d ≡ sends T b
+    sends_last : sent_by t c d ≡ sends T b
     unfolding sent_by
     sends_last = rw (lateral_is c, lateral_is d) (by_bool (sends T b)
         (λ s. rw s (found (sends_is T b s)))
@@ -139,7 +146,7 @@ module _ {n : ℕ} {t : Table} {x y : ℕ} (K : Climbable n t) (kx : NodeOf (tre
             pick (inr e) = right_yes (T.lateral c) (T.lateral d) (ap T.lateral (sym e) ∙ r.on)
 
   -- the event by the last arcs
-  pub event_last : event_by (sent_by t (departure T b x) (departure T b y)) b x y ≡ event_by (sends T b) b x y
+  event_last : event_by (sent_by t (departure T b x) (departure T b y)) b x y ≡ event_by (sends T b) b x y
   unfolding event_by
   event_last = by_eq x b (λ e. rw (is_same e)) (λ dx. by_eq y b (λ e. rw (is_same e) (both (same x b))) (λ dy. rw (sends_last dx dy)))
     where

@@ -1,3 +1,5 @@
 pub mod Climbs
 pub mod Pairs
 pub mod Evaluation
+pub mod Props
+pub mod Seated

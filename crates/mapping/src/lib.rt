@@ -3,22 +3,25 @@
 #![tactic(auto)]
 
 ghost use Rattle.std.specs.Prelude.{◌≡◌, ℕ, ◌-◌, ◌≤◌};
-ghost use Rattle.finite.specs.Tests.{same, tally};
 ghost use Rattle.layout.specs.Events.{number};
 ghost use Rattle.layout.specs.Headers.{costs};
 ghost use Rattle.layout.specs.inner.Tree.{up as up_in};
 ghost use Rattle.layout.specs.inner.Genes.{left as left_in, leaf as leaf_in, gene_tree};
 ghost use Rattle.layout.specs.inner.Results.{place as place_in, blank};
 ghost use Rattle.displayed.specs.Displayed.{NodeOf};
-ghost use Rattle.mapping.specs.inner.Climbs.{fork_in, tree_of, Climbable, Light, climbed_by, Meeting};
+ghost use Rattle.mapping.specs.inner.Climbs.{fork_in, Light, starting, climbed_by, Meeting};
 ghost use Rattle.mapping.specs.inner.Pairs.{sent_by, event_by, Passable, passed_by, Paired};
-ghost use Rattle.mapping.specs.inner.Evaluation.{Family, Seats, seated_by, sent_to, noted_by, Room, raised_by, Upto, Counted, total_of, score_of, LeavesUpto, Lent, Evaluated};
+ghost use Rattle.mapping.specs.inner.Evaluation.{Seats, seated_by, sent_to, noted_by, Room, raised_by, Upto, Counted, total_of, score_of, LeavesUpto, Lent, Evaluated};
+ghost use Rattle.mapping.specs.inner.Seated.{displayed_in, genes_in};
+
+pub mod seated;
 
 use layout::Header;
 use layout::events::Event;
 use layout::genes::Genes;
 use layout::results::Results;
 use layout::tree::Tree;
+use seated::SeatedGenes;
 
 // A way, climbed from its lower end: the transfers, the losses of a gene that passes every node above its lower end, and the arc climbed last, by its
 // lower end, 0 where none was, for which the tree has zeros, so that nothing asks.
@@ -29,6 +32,14 @@ pub struct Way {
     pub last: usize,
 }
 
+// A climber: where it stands, the rank of that node, and the way that it has climbed.
+#[derive(Clone, Copy)]
+pub struct Climber {
+    pub at: usize,
+    pub rank: u32,
+    pub way: Way,
+}
+
 // Where two climbers meet, and their ways.
 #[derive(Clone, Copy)]
 pub struct Met {
@@ -37,7 +48,8 @@ pub struct Met {
     pub right: Way,
 }
 
-// The transfers and losses on a gene's way. (No part of `Way`, whose losses count the node at its upper end too, which a gene may not pass.)
+// The transfers and losses on a gene's way. (No part of `Way`, whose losses count the node at its upper end too, which a gene
+// may not pass; `Placed` has the two among the four numbers of a gene's line.)
 #[derive(Clone, Copy)]
 pub struct Steps {
     pub transfers: u32,
@@ -62,63 +74,44 @@ pub struct Score {
     pub cost: u32,
 }
 
-// 1 for a node that two on arcs leave, under a name that the laws cite.
-#[tactic(auto, unfolding(finite::specs::Tests::same))]
-fn fork(arcs: u32) -> u32
-    ensures { (result ≡ tally (same arcs 2)) × (result ≤ 1) }
-{
-    u32::from(arcs == 2)
-}
-
 // 1 where coming down the arc into c from a node passed gives up another arc.
+// (Half the arcs would be one instruction less of thirteen in a climb, and every caller would have to be told that they are at most 2.)
 #[tactic(auto, unfolding(crate::specs::inner::Climbs::fork_in))]
 fn mark(t: &Tree, c: usize) -> u32
     requires { (c ≤ 127) × (up_in t.now c ≤ 127) }
     ensures { (result ≡ fork_in t.now (up_in t.now c)) × (result ≤ 1) }
 {
-    fork(t.arcs[t.up[c] as usize])
+    tables::one_if(t.arcs[t.up[c] as usize], 2)
 }
 
-// The way once the arc into a is climbed too.
+// A climber that has climbed no arc yet.
+#[tactic(auto, unfolding(crate::specs::inner::Climbs::starting))]
+fn starting(t: &Tree, x: usize) -> Climber
+    requires { x ≤ 127 }
+    ensures { result ≡ starting t.now x }
+{
+    Climber {
+        at: x,
+        rank: t.rank[x],
+        way: Way::default(),
+    }
+}
+
+// The climber once it has climbed the arc into the node where it stands.
 #[tactic(auto, unfolding(crate::specs::inner::Climbs::climbed_by))]
-fn climb(t: &Tree, w: Way, a: usize) -> Way
-    requires { (a ≤ 127) × (up_in t.now a ≤ 127) × Light w }
-    ensures { result ≡ climbed_by t.now w a }
+fn climb(t: &Tree, c: Climber) -> Climber
+    requires { (c.at ≤ 127) × (up_in t.now c.at ≤ 127) × Light c.way }
+    ensures { result ≡ climbed_by t.now c }
 {
-    Way {
-        transfers: w.transfers + u32::from(t.lateral[a]),
-        losses: w.losses + mark(t, a),
-        last: a,
-    }
-}
-
-// The lowest node from which x and y are reached along on arcs, and the ways down to them: the climber that stands lower climbs.
-// (A `while`: two climbs that wait for one another count nothing and are no one iterator.)
-fn meet(n: usize, t: &Tree, x: usize, y: usize) -> Met
-    requires { Climbable n t.now × NodeOf (tree_of n t.now) x × NodeOf (tree_of n t.now) y }
-    ensures { Meeting (tree_of n t.now) x y result }
-{
-    let mut a = x;
-    let mut b = y;
-    let mut left = Way::default();
-    let mut right = Way::default();
-    let mut p = t.rank[x];
-    let mut q = t.rank[y];
-    while a != b {
-        if q <= p {
-            left = climb(t, left, a);
-            a = t.up[a] as usize;
-            p = t.rank[a];
-        } else {
-            right = climb(t, right, b);
-            b = t.up[b] as usize;
-            q = t.rank[b];
-        }
-    }
-    Met {
-        node: a,
-        left,
-        right,
+    let p = t.up[c.at] as usize;
+    Climber {
+        at: p,
+        rank: t.rank[p],
+        way: Way {
+            transfers: c.way.transfers + u32::from(t.lateral[c.at]),
+            losses: c.way.losses + mark(t, c.at),
+            last: c.at,
+        },
     }
 }
 
@@ -162,22 +155,8 @@ fn steps_of(t: &Tree, event: Event, w: Way) -> Steps
     }
 }
 
-// A gene whose children sit at x and y.
-fn pair_of(n: usize, t: &Tree, x: usize, y: usize) -> Pair
-    requires { Climbable n t.now × NodeOf (tree_of n t.now) x × NodeOf (tree_of n t.now) y }
-    ensures { Paired (tree_of n t.now) x y result }
-{
-    let Met { node, left, right } = meet(n, t, x, y);
-    let event = event(sends(t, left.last, right.last), node, x, y);
-    Pair {
-        node,
-        event,
-        left: steps_of(t, event, left),
-        right: steps_of(t, event, right),
-    }
-}
-
-// One pair more: the event chooses which count is raised and what is charged at the gene; what is on the ways is counted there.
+// One pair more: the event chooses which count is raised and what is charged at the gene; what is on the ways is counted there. (A match with an arm for
+// each event is a form that the rules name.)
 #[tactic(auto, unfolding(crate::specs::inner::Evaluation::raised_by, finite::specs::Tests::same))]
 fn raise(h: Header, s: Score, p: Pair) -> Score
     requires { Room h s p }
@@ -220,54 +199,6 @@ fn send(r: &mut Results, k: usize, w: Steps)
     gene.losses = w.losses;
 }
 
-// Gene k, where it is a leaf gene, is seated.
-fn seat_leaf(g: &Genes, r: &mut Results, k: usize)
-    requires { (1 ≤ k) × (k ≤ 127) × (left_in g.now k ≡ 0 → leaf_in g.now k ≤ 127) × LeavesUpto g.now (k - 1) r.old }
-    ensures { LeavesUpto g.now k r.new }
-{
-    if g.left[k] == 0 {
-        seat(r, k, g.leaf[k] as usize, Event::LeafGene);
-    }
-}
-
-// A leaf gene sits at its leaf and has the event of a leaf gene under every switching: noted once, before the first.
-pub fn seat_leaves(m: usize, g: &Genes, r: &mut Results)
-    requires { (m ≤ 127) × ((k : ℕ) → 1 ≤ k → k ≤ m → left_in g.now k ≡ 0 → leaf_in g.now k ≤ 127) × (r.old ≡ blank) }
-    ensures { Lent (gene_tree m g.now) r.new }
-{
-    for k in 1..=m {
-        seat_leaf(g, r, k);
-    }
-}
-
-// An inner gene k with the children a and b, whose places are known.
-fn inner(n: usize, t: &Tree, r: &mut Results, k: usize, a: usize, b: usize) -> Pair
-    requires { Climbable n t.now × Seats n t.now r.old a b × (k ≤ 127) × (a ≤ 127) × (b ≤ 127) }
-    ensures paired { Paired (tree_of n t.now) (place_in r.old a) (place_in r.old b) result }
-    ensures results { r.new ≡ noted_by r.old k a b result }
-{
-    let p = pair_of(n, t, r[a].place as usize, r[b].place as usize);
-    seat(r, k, p.node, p.event);
-    send(r, a, p.left);
-    send(r, b, p.right);
-    p
-}
-
-// Gene k, the genes of higher number being done.
-fn gene(h: Header, t: &Tree, g: &Genes, r: &mut Results, k: usize, s: Score) -> Score
-    requires family { Family h t.now g.now × (1 ≤ k) × (k ≤ h.genes) }
-    requires upto { Upto (tree_of h.nodes t.now) (gene_tree h.genes g.now) (costs h) k r.old s }
-    ensures { Upto (tree_of h.nodes t.now) (gene_tree h.genes g.now) (costs h) (k - 1) r.new result }
-{
-    let a = g.left[k] as usize;
-    if a == 0 {
-        return s;
-    }
-    let b = g.right[k] as usize;
-    let p = inner(h.nodes, t, r, k, a, b);
-    raise(h, s, p)
-}
-
 // With what the transfers and losses cost.
 #[tactic(auto, using(crate::proofs::Products::transfers_fit, crate::proofs::Products::losses_fit), unfolding(crate::specs::inner::Evaluation::total_of))]
 fn total(h: Header, s: Score) -> Score
@@ -279,16 +210,105 @@ fn total(h: Header, s: Score) -> Score
     r
 }
 
-// Every gene's place, event, transfers and losses, and the score, children before their parents. (Header, tree, genes and results stay four parameters:
-// each function reads two or three of them and one writes, so that a struct of them would be made at each call.)
-pub fn evaluate(h: Header, t: &Tree, g: &Genes, r: &mut Results) -> Score
-    requires { Family h t.now g.now × Lent (gene_tree h.genes g.now) r.old }
-    ensures score { result ≡ score_of (tree_of h.nodes t.now) (gene_tree h.genes g.now) (costs h) }
-    ensures evaluated { Evaluated (tree_of h.nodes t.now) (gene_tree h.genes g.now) r.new }
+// Gene k, where it is a leaf gene, is seated.
+fn seat_leaf(g: &Genes, r: &mut Results, k: usize)
+    requires { (1 ≤ k) × (k ≤ 127) × (left_in g.now k ≡ 0 → leaf_in g.now k ≤ 127) × LeavesUpto g.now (k - 1) r.old }
+    ensures { LeavesUpto g.now k r.new }
 {
-    let mut s = Score::default();
-    for k in (1..=h.genes).rev() {
-        s = gene(h, t, g, r, k, s);
+    if g.left[k] == 0 {
+        seat(r, k, g.leaf[k] as usize, Event::LeafGene);
     }
-    total(h, s)
+}
+
+// A leaf gene sits at its leaf and has the event of a leaf gene under every switching: noted once, before the first. (Into results that are lent: see
+// `search::Work`.)
+pub fn seat_leaves(m: usize, g: &Genes, r: &mut Results)
+    requires { (m ≤ 127) × ((k : ℕ) → 1 ≤ k → k ≤ m → left_in g.now k ≡ 0 → leaf_in g.now k ≤ 127) × (r.old ≡ blank) }
+    ensures { Lent (gene_tree m g.now) r.new }
+{
+    for k in 1..=m {
+        seat_leaf(g, r, k);
+    }
+}
+
+// (By value: lent, each inner gene costs an instruction more, and the search of a wide network takes 3.5 % longer.)
+impl SeatedGenes<'_> {
+    // The lowest node from which x and y are reached along on arcs, and the ways down to them: the climber that stands lower climbs.
+    // (A `while`: two climbs that wait for one another count nothing and are no one iterator.)
+    #[tactic(auto, unfolding(crate::specs::inner::Climbs::tree_of, displayed::specs::inner::Tabled::tree_in))]
+    fn meet(self, x: usize, y: usize) -> Met
+        requires { NodeOf (displayed_in self) x × NodeOf (displayed_in self) y }
+        ensures { Meeting (displayed_in self.entry) x y result }
+    {
+        let mut left = starting(self.tree, x);
+        let mut right = starting(self.tree, y);
+        while left.at != right.at {
+            if right.rank <= left.rank {
+                left = climb(self.tree, left);
+            } else {
+                right = climb(self.tree, right);
+            }
+        }
+        Met {
+            node: left.at,
+            left: left.way,
+            right: right.way,
+        }
+    }
+
+    // A gene whose children sit at x and y.
+    fn pair_of(self, x: usize, y: usize) -> Pair
+        requires { NodeOf (displayed_in self) x × NodeOf (displayed_in self) y }
+        ensures { Paired (displayed_in self.entry) x y result }
+    {
+        let Met { node, left, right } = self.meet(x, y);
+        let event = event(sends(self.tree, left.last, right.last), node, x, y);
+        Pair {
+            node,
+            event,
+            left: steps_of(self.tree, event, left),
+            right: steps_of(self.tree, event, right),
+        }
+    }
+
+    // An inner gene k with the children a and b, whose places are known.
+    fn inner(self, r: &mut Results, k: usize, a: usize, b: usize) -> Pair
+        requires { Seats self.header.nodes self.tree.now r.old a b × (k ≤ 127) × (a ≤ 127) × (b ≤ 127) }
+        ensures paired { Paired (displayed_in self.entry) (place_in r.old a) (place_in r.old b) result }
+        ensures results { r.new ≡ noted_by r.old k a b result }
+    {
+        let p = self.pair_of(r[a].place as usize, r[b].place as usize);
+        seat(r, k, p.node, p.event);
+        send(r, a, p.left);
+        send(r, b, p.right);
+        p
+    }
+
+    // Gene k, the genes of higher number being done.
+    fn gene(self, r: &mut Results, k: usize, s: Score) -> Score
+        requires gene { (1 ≤ k) × (k ≤ self.header.genes) }
+        requires upto { Upto (displayed_in self) (genes_in self) (costs self.header) k r.old s }
+        ensures { Upto (displayed_in self.entry) (genes_in self.entry) (costs self.entry.header) (k - 1) r.new result }
+    {
+        let a = self.genes.left[k] as usize;
+        if a == 0 {
+            return s;
+        }
+        let b = self.genes.right[k] as usize;
+        let p = self.inner(r, k, a, b);
+        raise(self.header, s, p)
+    }
+
+    // Every gene's place, event, transfers and losses, and the score, children before their parents.
+    pub fn evaluate(self, r: &mut Results) -> Score
+        requires { Lent (genes_in self) r.old }
+        ensures score { result ≡ score_of (displayed_in self.entry) (genes_in self.entry) (costs self.entry.header) }
+        ensures evaluated { Evaluated (displayed_in self.entry) (genes_in self.entry) r.new }
+    {
+        let mut s = Score::default();
+        for k in (1..=self.header.genes).rev() {
+            s = self.gene(r, k, s);
+        }
+        total(self.header, s)
+    }
 }

@@ -6,8 +6,9 @@ use Rattle.finite.specs.Tests.{same}
 use Rattle.finite.specs.Range.{any, every, children}
 use Rattle.finite.specs.Refusals.{verdict}
 use Rattle.finite.proofs.Cases.{by_eq, by_less, clash}
-use Rattle.finite.proofs.Tests.{is_same, same_is, not_same, or_no_l, or_no_r, not_false, tally_le}
-use Rattle.finite.proofs.Every.{is_some, not_every, some_none}
+use Rattle.std.proofs.lemmas.Bool.{not-false}
+use Rattle.finite.proofs.Tests.{is_same, same_is, not_same, or_no_l, or_no_r, tally_le}
+use Rattle.finite.proofs.Every.{is_some, not_every, not_some}
 use Rattle.finite.proofs.Count.{count_some, count_find}
 use Rattle.finite.specs.Tables.{within}
 use Rattle.finite.proofs.Tables.{within_zero, within_out}
@@ -33,11 +34,14 @@ module _ (L : NodeLines) where
     no_6 : ¬ (Refusal6 L)
     no_6 r = clash ((reading_6 L).1 r) six
 
+    inside : (p : ℕ) → (L.size < p → Refusal6 L) → p ≤ L.size
+    inside p above = by_less L.size p (λ l. absurd (no_6 (above l))) (λ g. g)
+
     pub principal_in : (v : ℕ) → Node (network L) v → L.principal v ≤ L.size
-    principal_in v k = by_less L.size (L.principal v) (λ l. absurd (no_6 (principal_above v k l))) (λ g. g)
+    principal_in v k = inside (L.principal v) (principal_above v k)
 
     pub secondary_in : (v : ℕ) → Node (network L) v → L.secondary v ≤ L.size
-    secondary_in v k = by_less L.size (L.secondary v) (λ l. absurd (no_6 (secondary_above v k l))) (λ g. g)
+    secondary_in v k = inside (L.secondary v) (secondary_above v k)
 
     both_parents : (v : ℕ) → Node (network L) v → L.secondary v ≢ 0 → L.principal v ≢ 0
     both_parents v k d e = no_6 (root_secondary v k e d)
@@ -54,7 +58,7 @@ module _ (L : NodeLines) where
 
       shape : (v : ℕ) → Node (network L) v → Shape (network L) v
       unfolding refusal8
-      shape v k = shape_at L v (some_none L.size (shapeless_at L) eight v k.low (node_high L v k))
+      shape v k = shape_at L v (not_some L.size (shapeless_at L) eight v k.low (node_high L v k))
 
       -- a node with a secondary arc out is no reticulation
       source_plain : (u v : ℕ) → Node (network L) u → Node (network L) v → L.secondary v ≡ u → L.secondary u ≡ 0
@@ -106,7 +110,7 @@ module _ (L : NodeLines) where
         unfolding refusal10 only_reticulations_at reticulation_if_child children network
         plain_at v k l = let f = count_find L.size (λ x. same (L.principal x) v) l in
             let c : any L.size (child_at L v) ≡ true = is_some L.size f.0 (child_at L v) f.1 f.2 (is_child L v f.0 (by_principal (same_is _ _ f.3))) in
-            let q : every L.size (reticulation_if_child L v) ≡ false = rw c at (some_none L.size (only_reticulations_at L) ten v k.low k.high) in
+            let q : every L.size (reticulation_if_child L v) ≡ false = rw c at (not_some L.size (only_reticulations_at L) ten v k.low k.high) in
             found (not_every L.size (reticulation_if_child L v) q)
           where
             parent_of : (w : ℕ) → Node (network L) w → L.secondary w ≡ 0 → Child L v w → PlainChild (network L) v
@@ -115,8 +119,8 @@ module _ (L : NodeLines) where
 
             found : (w : ℕ) × (1 ≤ w) × (w ≤ L.size) × (reticulation_if_child L v w ≡ false) → PlainChild (network L) v
             found r = parent_of r.0 (record { low = r.1; high = r.2 })
-                (same_is _ _ (not_false _ (or_no_r (not (child_at L v r.0)) _ r.3)))
-                (child_is L v r.0 (not_false _ (or_no_l _ (not (same (L.secondary r.0) 0)) r.3)))
+                (same_is _ _ (not-false _ (or_no_r (not (child_at L v r.0)) _ r.3)))
+                (child_is L v r.0 (not-false _ (or_no_l _ (not (same (L.secondary r.0) 0)) r.3)))
 
         pub plain_child : (v : ℕ) → Node (network L) v → ¬ (IsLeaf (network L) v) → PlainChild (network L) v
         unfolding network

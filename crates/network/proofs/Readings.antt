@@ -6,7 +6,8 @@ use Rattle.finite.specs.Tests.{same, under}
 use Rattle.finite.specs.Range.{any, children}
 use Rattle.finite.specs.Refusals.{AllTell, one_more}
 use Rattle.finite.proofs.Cases.{by_bool, clash}
-use Rattle.finite.proofs.Tests.{is_same, same_is, not_same, same_not, under_is, under_not, and_l, and_r, or_yes_l, or_yes_r, not_true, test_laws}
+use Rattle.std.proofs.lemmas.Bool.{or_left, or_right, not-true}
+use Rattle.finite.proofs.Tests.{is_same, same_is, not_same, same_not, under_is, under_not, and_l, and_r, test_laws}
 use Rattle.finite.proofs.Count.{count_find, count_one, count_alone}
 use Rattle.finite.proofs.Refusals.{tell}
 use Rattle.topology.specs.Networks.{Node}
@@ -24,7 +25,7 @@ module _ (L : NodeLines) where
       (λ b. by_bool (same (L.principal v) v) (λ t. principal_itself v k (same_is _ _ t))
       (λ c. by_bool (same (L.secondary v) v) (λ t. secondary_itself v k (same_is _ _ t))
       (λ d. let z : (same (L.principal v) 0 && not (same (L.secondary v) 0)) ≡ true = rw (a, b, c, d) at h in
-      root_secondary v k (same_is _ _ (and_l _ (not (same (L.secondary v) 0)) z)) (same_not _ _ (not_true _ (and_r (same (L.principal v) 0) _ z)))))))
+      root_secondary v k (same_is _ _ (and_l _ (not (same (L.secondary v) 0)) z)) (same_not _ _ (not-true _ (and_r (same (L.principal v) 0) _ z)))))))
 
   pub one_root : children L.size L.principal 0 ≡ 1 → OneRoot L
   unfolding children
@@ -43,15 +44,15 @@ module _ (L : NodeLines) where
   from_6 : refusal6 L ≡ true → Refusal6 L
   unfolding refusal6
   from_6 h = by_bool (any L.size (bad_parents_at L)) (λ t. by_some L _ t parents_told)
-      (λ t. not_one_root (λ o. clash (is_same (root_count o)) (not_true _ (rw t at h))))
+      (λ t. not_one_root (λ o. clash (is_same (root_count o)) (not-true _ (rw t at h))))
 
   node_6 : (v : ℕ) → Node (network L) v → bad_parents L.size (L.principal v) (L.secondary v) v ≡ true → refusal6 L ≡ true
   unfolding refusal6 bad_parents_at
-  node_6 v k t = or_yes_l _ _ (some_node L (bad_parents_at L) v k t)
+  node_6 v k t = or_left _ _ (some_node L (bad_parents_at L) v k t)
 
   pub roots_6 : children L.size L.principal 0 ≢ 1 → refusal6 L ≡ true
   unfolding refusal6
-  roots_6 d = or_yes_r (any L.size (bad_parents_at L)) _ (rw (not_same d))
+  roots_6 d = or_right (any L.size (bad_parents_at L)) _ (rw (not_same d))
 
   to_6 : Refusal6 L → refusal6 L ≡ true
   unfolding bad_parents
@@ -69,9 +70,9 @@ module _ (L : NodeLines) where
   stamps_told : (v : ℕ) → Node (network L) v → bad_stamps_at L v ≡ true → Refusal7 L
   unfolding bad_stamps_at bad_stamps
   stamps_told v k h = by_bool (not (same (L.principal v) 0) && not (under (L.stamp (L.principal v)) (L.stamp v)))
-      (λ t. principal_not_below v k (same_not _ _ (not_true _ (and_l _ _ t))) (under_not _ _ (not_true _ (and_r (not (same (L.principal v) 0)) _ t))))
+      (λ t. principal_not_below v k (same_not _ _ (not-true _ (and_l _ _ t))) (under_not _ _ (not-true _ (and_r (not (same (L.principal v) 0)) _ t))))
       (λ q. let t : (not (same (L.secondary v) 0) && not (same (L.stamp (L.secondary v)) (L.stamp v))) ≡ true = rw q at h in
-      secondary_not_equal v k (same_not _ _ (not_true _ (and_l _ _ t))) (same_not _ _ (not_true _ (and_r (not (same (L.secondary v) 0)) _ t))))
+      secondary_not_equal v k (same_not _ _ (not-true _ (and_l _ _ t))) (same_not _ _ (not-true _ (and_r (not (same (L.secondary v) 0)) _ t))))
 
   from_7 : refusal7 L ≡ true → Refusal7 L
   unfolding refusal7

@@ -134,11 +134,14 @@ module _ (text : List ℕ) (b c : GeneColumns) (short : length text ≤ 574) whe
   unfolding answer_of Means
   outside_by r o e = promised text b c (Err Outside) (rw (not_under short, e)) (λ m. (m, told_kept 0 0 b c (tree_at text 0) r o))
 
-  pub answer_none : Outcome (tree_at text 0) 0 0 b None c → Promise text b c (Err Outside)
+  pub answer_none : {r : Option Place} → Outcome (tree_at text 0) 0 0 b r c → r ≡ None → Promise text b c (Err Outside)
   unfolding answer_to
-  answer_none o = outside_by None o (rw (told_none 0 0 b c (tree_at text 0) o))
+  answer_none o d = outside_by None (rw d at o) (rw (told_none 0 0 b c (tree_at text 0) (rw d at o)))
 
-  module _ (tree : Place) (o : Outcome (tree_at text 0) 0 0 b (Some tree) c) where
+  module _ (tree : Place) {r : Option Place} (out : Outcome (tree_at text 0) 0 0 b r c) (d : r ≡ Some tree) where
+    o : Outcome (tree_at text 0) 0 0 b (Some tree) c
+    o = rw d at out
+
     x : Told (tree_at text 0) 0 0 b tree c
     x = told 0 0 b c (tree_at text 0) tree o
 
@@ -152,8 +155,8 @@ module _ (text : List ℕ) (b c : GeneColumns) (short : length text ≤ 574) whe
 
       pub answer_longer : (end.at ≡ length text → ⊥) → Promise text b c (Err Outside)
       unfolding answer_to
-      answer_longer d =
-          let z : same (suc tree.at) (length text) ≡ false = not_same (λ h. d (omega (arith, next.at_is))) in
+      answer_longer n =
+          let z : same (suc tree.at) (length text) ≡ false = not_same (λ h. n (omega (arith, next.at_is))) in
           outside_by (Some tree) o (rw (x.found_is, next.test, z))
 
       module _ (last : end.at ≡ length text) where

@@ -6,7 +6,8 @@ use Rattle.std.proofs.Math.ListN.{get_or-eq_default}
 use Rattle.std.proofs.Math.Seq.{drop-append_seam}
 use Rattle.finite.specs.Tests.{under}
 use Rattle.finite.proofs.Cases.{by_less}
-use Rattle.finite.proofs.Tests.{under_is, is_under, not_under, and_l, and_r, and_no_l, and_no_r}
+use Rattle.std.proofs.lemmas.Bool.{and_left, and_right}
+use Rattle.finite.proofs.Tests.{under_is, is_under, not_under, and_l, and_r}
 use Rattle.newick.specs.Reading.{byte_at, digit_from}
 
 -- a byte that is not 0 stands inside the text
@@ -27,11 +28,11 @@ digit_yes from b l u = let p : from < suc b = omega arith in rw (is_under u, is_
 
 pub digit_less : (from b : ℕ) → b < from → digit_from from b ≡ false
 unfolding digit_from
-digit_less from b l = let p : suc b ≤ from = omega arith in and_no_r (under b 58) (under from (suc b)) (not_under p)
+digit_less from b l = let p : suc b ≤ from = omega arith in and_right (under b 58) (under from (suc b)) (not_under p)
 
 pub digit_more : (from b : ℕ) → 58 ≤ b → digit_from from b ≡ false
 unfolding digit_from
-digit_more from b l = and_no_l (under b 58) (under from (suc b)) (not_under l)
+digit_more from b l = and_left (under b 58) (under from (suc b)) (not_under l)
 
 -- the byte at a place begins what is left there, and what follows it is left at the next
 pub front : (text : List ℕ) (at : ℕ) (xs : List ℕ) → drop at text ≡ xs → byte_at text at ≡ get_or xs 0 0

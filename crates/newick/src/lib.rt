@@ -7,10 +7,9 @@ ghost use Rattle.newick.specs.Answers.{Promise};
 ghost use Rattle.newick.specs.inner.Steps.{digit_at, passed, Whole, entered, Outcome};
 
 use layout::lines::GeneColumns;
+use tables::MOST;
 
-// The most genes that the columns have room for, and the longest text of a tree of so many.
-const GENES: usize = 127;
-
+// The longest text of a tree of as many genes as the columns have room for.
 const LONGEST: usize = 574;
 
 // Why a text is not taken: it is outside the grammar, or has too many bytes, or too many genes.
@@ -41,20 +40,20 @@ fn enter(own: usize, up: usize, species: u32, genes: &mut GeneColumns)
     ensures written { genes.new ≡ entered genes.old own up species }
     ensures whole { Whole genes.old }
 {
-    if own <= GENES {
+    if own <= MOST {
         genes.parent[own] = up as u32;
         genes.species[own] = species;
     }
 }
 
-// The reader of a text.
+// The reader of a text. (The columns that it fills are a parameter and no field: a reader that changes itself owes at each return that its text stays.)
 #[derive(Clone, Copy)]
 struct Reader<'a> {
     text: &'a [u8],
 }
 
 impl Reader<'_> {
-    // What the digit at a place counts for.
+    // What the digit at a place counts for: the library's `to_digit`, under the name by which a definition (`digit_at`) is told.
     fn digit(&self, at: usize) -> Option<u32>
         ensures value { result ≡ digit_at self.now.text.now at }
         ensures few { IfSome result (λ d. d ≤ 9) }
@@ -99,7 +98,8 @@ impl Reader<'_> {
         })
     }
 
-    // The tree at a place. (The columns are a parameter and no field of the reader: contracts speak of them before and after the call.)
+    // The tree at a place.
+    #[tactic(auto, using(crate::proofs::Turns::tree_pair, crate::proofs::Turns::tree_none, crate::proofs::Turns::tree_leaf))]
     #[cycle(pair_tree)]
     fn tree(&self, from: Place, up: usize, genes: &mut GeneColumns) -> Option<Place>
         requires apart { from.genes ≤ from.at }
@@ -119,6 +119,7 @@ impl Reader<'_> {
     }
 
     // The pair at a place after its bracket.
+    #[tactic(auto, using(crate::proofs::Turns::pair_no_left, crate::proofs::Turns::pair_no_comma, crate::proofs::Turns::pair_no_right, crate::proofs::Turns::pair_end))]
     #[cycle(pair_tree)]
     fn pair(&self, from: Place, up: usize, genes: &mut GeneColumns) -> Option<Place>
         requires apart { from.genes < from.at }
@@ -135,6 +136,7 @@ impl Reader<'_> {
 }
 
 // Reads a whole text, and puts the parents and the species of its genes into their columns.
+#[tactic(auto, using(crate::proofs::Answers::answer_none))]
 pub fn read(text: &[u8], genes: &mut GeneColumns) -> Result<usize, Unreadable>
     ensures { Promise text.now genes.old genes.new result }
 {
@@ -149,7 +151,7 @@ pub fn read(text: &[u8], genes: &mut GeneColumns) -> Result<usize, Unreadable>
     if end.at != text.len() {
         return Err(Unreadable::Outside);
     }
-    if end.genes > GENES {
+    if end.genes > MOST {
         return Err(Unreadable::Many);
     }
     Ok(end.genes)

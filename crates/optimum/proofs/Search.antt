@@ -61,8 +61,6 @@ module _ (n : ℕ) (settings : ℕ → ℕ) (trial : ℕ → ℕ → ℕ) where
   unfolding state_of
   search_counted f t p h u = ap (λ (s : State). s.count) h ∙ after_count n settings trial p u
 
-pub ruleset search_loop = (score_take, score_keep, search_start, search_turn, search_next, search_done)
-
 -- the search over the components of a network, for any cost
 module _ (N : Network) (ok : Sound N) (cost : Switching → ℕ) where
   -- the state when the search stops

@@ -6,7 +6,8 @@ use native.Mathlib.Nat.{pow-zero, pow-succ', zero-div, div-div-eq-div-mul}
 use Rattle.finite.specs.Tests.{same, under, tally}
 use Rattle.finite.specs.Range.{count}
 use Rattle.finite.proofs.Cases.{by_bool, by_eq, by_order, by_less, clash}
-use Rattle.finite.proofs.Tests.{not_same, is_under, not_under, and_no_r, tally_le, tally_odd}
+use Rattle.std.proofs.lemmas.Bool.{and_right}
+use Rattle.finite.proofs.Tests.{not_same, is_under, not_under, tally_le, tally_odd}
 use Rattle.finite.proofs.Sum.{sum_suc, sum_zero_range, sum_add, sum_point}
 use Rattle.finite.proofs.Count.{count_zero, count_find}
 use Rattle.topology.specs.Networks.{Network, Sound, Reticulation}
@@ -71,7 +72,7 @@ module _ (d : ℕ → Bool) where
     -- the digit of the last place is the last digit; a place before it has its digit in half of the number
     digits_last : (j : ℕ) → d (suc k) ≡ true → digits d (suc k) j (suc k) ≡ same (j % 2) 1
     digits_last j t =
-        let e : places_after d (suc k) (suc k) ≡ 0 = count_zero (suc k) _ (λ q _ u. and_no_r (d q) _ (not_under {m = suc k} {n = q} u)) in
+        let e : places_after d (suc k) (suc k) ≡ 0 = count_zero (suc k) _ (λ q _ u. and_right (d q) _ (not_under {m = suc k} {n = q} u)) in
         rw (t, e, pow-zero 2, div-one j)
 
     digits_more : (j r : ℕ) → d (suc k) ≡ true → r ≤ k → digits d (suc k) j r ≡ digits d k (j / 2) r
@@ -173,10 +174,6 @@ module _ (N : Network) (ok : Sound N) (c : ℕ) where
   pub setting_onto : (σ : Switching) → (x : ℕ) × (x < 2 ^ reticulation_count N c) × Agree N (setting_of N c x) σ c
   setting_onto σ = (number_at σ, number_low σ, agree_number (setting_of N c (number_at σ)) σ (setting_number (number_at σ) (number_low σ)))
 
-  -- and with one only
-  pub setting_one : (x y : ℕ) → x < 2 ^ reticulation_count N c → y < 2 ^ reticulation_count N c → Agree N (setting_of N c x) (setting_of N c y) c → x ≡ y
-  setting_one x y lx ly a = sym (setting_number x lx) ∙ number_agree (setting_of N c x) (setting_of N c y) a ∙ setting_number y ly
-
   number_order : (σ τ : Switching) → number_at σ ≤ number_at τ → NotAfter In σ τ
   number_order σ τ l = by_less (number_at σ) (number_at τ)
       (λ m. let f = number_less (member_of N c) σ τ N.size m in
@@ -201,7 +198,7 @@ module _ (N : Network) (ok : Sound N) (c : ℕ) where
 
   pub setting_principal : (r : ℕ) → setting_of N c 0 r ≡ false
   unfolding setting_of
-  setting_principal r = rw (zero-div (2 ^ reticulations_after N c r)) (and_no_r (member_of N c r) _ (not_same {m = 0} {n = 1} (omega arith)))
+  setting_principal r = rw (zero-div (2 ^ reticulations_after N c r)) (and_right (member_of N c r) _ (not_same {m = 0} {n = 1} (omega arith)))
 
 -- only a top has reticulations of its own: the others are in no component of that number
 pub reticulations_top : (N : Network) → Sound N → (c : ℕ) → 1 ≤ reticulation_count N c → is_top N c ≡ true

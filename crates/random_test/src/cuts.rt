@@ -4,7 +4,7 @@ use super::settings::settings;
 use std::alloc::{AllocError, Global};
 use std::num::Saturating;
 
-// The nodes that are joined to one of them.
+// The nodes that are joined to one of them. (Flags, and no set of the library: a set allocates as it grows, so that each method would hand on an error.)
 #[derive(Drop)]
 struct Joined {
     nodes: Vec<bool>,

@@ -108,7 +108,7 @@ impl DisplayedTree {
     }
 }
 
-// The way up from a node, with no more steps than there are nodes.
+// The way up from a node, with no more steps than there are nodes. (An iterator of its own: Rattle has no `impl Iterator` as a result.)
 #[derive(Drop)]
 struct Upward<'a> {
     tree: &'a DisplayedTree,

@@ -4,6 +4,7 @@ use super::draws::{Draws, Purpose};
 use super::growth::Growth;
 use super::lines::number;
 use std::alloc::{AllocError, Global};
+use std::iter::successors;
 
 // The most genes.
 const MOST: usize = 31;
@@ -74,16 +75,12 @@ impl Descent<'_> {
         }
     }
 
-    // Where gene g stays.
+    // Where gene g stays: the last node of its way down, which has no more nodes than the network.
     fn stay(&self, g: usize, start: usize) -> usize {
-        let mut v = start;
-        for _ in 0..self.growth.network.len() {
-            match self.next(g, v) {
-                Some(w) => v = w,
-                None => return v,
-            }
-        }
-        v
+        successors(Some(start), |v| self.next(g, *v))
+            .take(self.growth.network.len())
+            .last()
+            .unwrap_or(start)
     }
 
     // The leaf where gene g ends: half of the genes stray from the one that they came to.

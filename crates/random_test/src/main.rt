@@ -2,7 +2,7 @@
 // the sheet, its own placement, costs and components, its own spelling of the report. Every byte of the result is compared, but the whole-network cost is
 // taken as reported. The counts expected are those of the independent implementation (compare/run --random-test), which makes the same sheets.
 // (Thresholds of draws, indices by name and the bits of a setting are numbers, as the generator draws them: a type for each would be made where it is drawn
-// and taken apart a line further down.)
+// and taken apart a line further down. The buffers have a fixed length, since the entry takes the least ones and leaves the rest of each as it was.)
 #![tactic(auto)]
 
 mod counts;

@@ -42,8 +42,13 @@ impl Node {
     }
 }
 
+// The node of a species.
+fn leaf_of(species: usize, nodes: &[Line]) -> Option<usize> {
+    nodes.iter().position(|Line([.., other])| *other == species)
+}
+
 impl Gene {
-    // The gene of line g.
+    // The gene of line g; none where it has one child or more than two.
     fn read(g: usize, genes: &[Line], nodes: &[Line]) -> Option<Gene> {
         let Line([_, parent, species, _, _]) = *genes.get(g)?;
         let mut children = genes
@@ -51,13 +56,10 @@ impl Gene {
             .enumerate()
             .filter(|(_, Line([_, parent, ..]))| parent_numbered(*parent) == Some(g))
             .map(|(child, _)| child);
-        let end = match (children.next(), children.next()) {
-            (Some(a), Some(b)) => End::Children(a, b),
-            _ => End::Leaf(
-                nodes
-                    .iter()
-                    .position(|Line([.., other])| *other == species)?,
-            ),
+        let end = match (children.next(), children.next(), children.next()) {
+            (None, _, _) => End::Leaf(leaf_of(species, nodes)?),
+            (Some(a), Some(b), None) => End::Children(a, b),
+            _ => return None,
         };
         Some(Gene {
             parent: parent_numbered(parent),

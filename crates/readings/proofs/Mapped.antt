@@ -7,7 +7,8 @@ use Rattle.finite.specs.Tests.{same, tally}
 use Rattle.finite.specs.Range.{count}
 use Rattle.finite.proofs.Sum.{sum_same}
 use Rattle.finite.proofs.Cases.{by_bool, by_eq, clash}
-use Rattle.finite.proofs.Tests.{is_same, same_is, not_same, and_l, and_r, and_yes, not_yes, not_true}
+use Rattle.std.proofs.lemmas.Bool.{and_from, not_from_false, not-true}
+use Rattle.finite.proofs.Tests.{is_same, same_is, not_same, and_l, and_r}
 use Rattle.topology.specs.Networks.{Network, Node, Sound}
 use Rattle.topology.specs.Switchings.{Switching, on_secondary, parent, on_arcs, above, Above}
 use Rattle.topology.proofs.Above.{falls, network_ind, above_is, is_above, above_self, above_not, above_zero, above_anti}
@@ -42,7 +43,7 @@ module _ (N : Network) (ok : Sound N) (σ : Switching) where
       to : (above N σ v a && not (above N σ v b)) ≡ true → OnWay N σ b a v
       to h =
           let p : above N σ v a ≡ true = and_l (above N σ v a) _ h in
-          let q : above N σ v b ≡ false = not_true _ (and_r (above N σ v a) _ h) in
+          let q : above N σ v b ≡ false = not-true _ (and_r (above N σ v a) _ h) in
           record {
             below = is_above N ok σ b v (⊎_elim (λ r. r) (λ r. clash r q) (chain b v z a t p));
             apart = λ e. clash (rw e (above_self N ok σ b)) q;
@@ -50,7 +51,7 @@ module _ (N : Network) (ok : Sound N) (σ : Switching) where
           }
 
       from : OnWay N σ b a v → (above N σ v a && not (above N σ v b)) ≡ true
-      from w = and_yes _ _ (above_is N ok σ v w.reaches) (not_yes _ (by_bool (above N σ v b)
+      from w = and_from _ _ (above_is N ok σ v w.reaches) (not_from_false _ (by_bool (above N σ v b)
           (λ r. absurd (w.apart (above_anti N ok σ v b r (above_is N ok σ b w.below)))) (λ r. r)))
 
 module _ (N : Network) (σ : Switching) where
@@ -166,7 +167,7 @@ module _ {N : Network} (ok : Sound N) {G : GeneTree} (t : Rooted G) (s : Seated 
       test = λ c. (above N σ c x && not (above N σ c b)) && on_secondary N σ c;
       told = λ c _. (
         (λ h. ((on_way_lem c).0 (and_l (above N σ c x && not (above N σ c b)) _ h), and_r (above N σ c x && not (above N σ c b)) _ h)),
-        λ h. and_yes _ _ ((on_way_lem c).1 h.0) h.1,
+        λ h. and_from _ _ ((on_way_lem c).1 h.0) h.1,
       );
       number = way_sum D is_tree G t seats (λ c. tally (D.lateral c)) g ∙ sum_same N.size _ _ (λ c _ _. rw (not_same d) (counted (on_secondary N σ c) (above N σ c x && not (above N σ c b))));
     }
@@ -196,7 +197,7 @@ module _ {N : Network} (ok : Sound N) {G : GeneTree} (t : Rooted G) (s : Seated 
             ((on_way_lem v).0 (and_r (same (on_arcs N σ v) 2 && not (same v x)) _ h), (λ e. clash (and_r (same (on_arcs N σ v) 2) _ l) (rw (is_same e))), same_is _ _ (and_l (same (on_arcs N σ v) 2) _ l))
 
         telling : (v : ℕ) → OnWay N σ b x v × (v ≢ x) × (on_arcs N σ v ≡ 2) → C.passed D is_tree G t seats (G.parent g) g d refl v ≡ true
-        telling v h = and_yes _ _ (and_yes _ _ (is_same h.2) (not_yes _ (not_same h.1))) ((on_way_lem v).1 h.0)
+        telling v h = and_from _ _ (and_from _ _ (is_same h.2) (not_from_false _ (not_same h.1))) ((on_way_lem v).1 h.0)
 
         none : (event N G σ (G.parent g) ≢ 2) ⊎ (x ≡ b) → count N.size (C.passed D is_tree G t seats (G.parent g) g d refl) + tally (T.is_duplication D G (G.parent g) && not (same x b)) ≡ count N.size (C.passed D is_tree G t seats (G.parent g) g d refl)
         none (inl n) = rw (sym (E.event_test D G (G.parent g)) ∙ not_same n) (omega arith)

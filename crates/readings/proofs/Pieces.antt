@@ -4,7 +4,8 @@
 use Rattle.std.proofs.Common.{◌≡◌, refl, ap, ◌↔◌, true, false, not, ℕ, ◌≤◌, arith}
 use Rattle.finite.specs.Tests.{same}
 use Rattle.finite.proofs.Cases.{by_bool, by_eq, clash}
-use Rattle.finite.proofs.Tests.{is_same, not_same, not_yes, not_true}
+use Rattle.std.proofs.lemmas.Bool.{not_from_false, not-true}
+use Rattle.finite.proofs.Tests.{is_same, not_same}
 use Rattle.finite.proofs.Sum.{sum_same}
 use Rattle.topology.specs.Networks.{Network, Node, Sound}
 use Rattle.topology.specs.Components.{Top, is_top, component, member_of, reticulation_count, component_count}
@@ -53,11 +54,11 @@ module _ (N : Network) (ok : Sound N) where
         (λ h. let l : 1 ≤ reticulation_count N v = some_count v h in
             let t = reticulations_top N ok v l in
             ((top_iff N ok v).1 t, omega (arith, at_top v t))),
-        λ h. not_yes _ (not_same (λ e. omega (arith, h.1, at_top v ((top_iff N ok v).0 h.0)))),
+        λ h. not_from_false _ (not_same (λ e. omega (arith, h.1, at_top v ((top_iff N ok v).0 h.0)))),
       );
       number = refl;
     };
   }
     where
       some_count : (v : ℕ) → not (same (reticulation_count N v) 0) ≡ true → 1 ≤ reticulation_count N v
-      some_count v h = by_eq (reticulation_count N v) 0 (λ e. clash (is_same e) (not_true _ h)) (λ d. omega arith)
+      some_count v h = by_eq (reticulation_count N v) 0 (λ e. clash (is_same e) (not-true _ h)) (λ d. omega arith)

@@ -60,14 +60,10 @@ told BadGeneSpecies = refl
 one : (r q : Refusal) → number r ≡ number q → r ≡ q
 one r q e = sym (told r) ∙ ap with_number e ∙ told q
 
--- a check that comes to the number of a refusal has refused with it, and one that comes to 0 has passed
+-- a check that comes to the number of a refusal has refused with it
 pub is_refusal : {A : Type 0} (x : Result A Refusal) (r : Refusal) → refused x ≡ number r → x ≡ Err r
 is_refusal (Ok a) r e = absurd (omega (arith, some r))
 is_refusal (Err q) r e = ap Err (one q r e)
-
-pub passed : {A : Type 0} (x : Result A Refusal) → refused x ≡ 0 → (a : A) × (x ≡ Ok a)
-passed (Ok a) e = (a, refl)
-passed (Err r) e = absurd (omega (arith, some r))
 
 -- `?` hands a refusal on as it is
 pub handed_on : {A : Type 0} (x : Result A Refusal) (r : Refusal) → IsErrAnd x (λ q. q ≡ r) → x ≡ Err r

@@ -26,6 +26,7 @@ pub enum Refusal {
 }
 
 impl Refusal {
+    // A method and no `From`: laws speak of a refusal's number under this name, and `u32::from` would hide which number it is.
     pub fn number(self) -> u32
         ensures { result ≡ number self }
     {

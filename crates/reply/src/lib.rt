@@ -8,19 +8,24 @@ ghost use Rattle.refusals.specs.Numbers.{number};
 ghost use Rattle.reply.specs.Refused.{refused_line};
 ghost use Rattle.reply.specs.Replies.{longest_sheet, Replied};
 
+use columns::WIDTH;
 use refusals::Refusal;
+use tables::MOST;
 
 // The room for a sheet that is read: one byte more than the longest has, so that a longer one is noticed.
-pub const SHEET: usize = text_lines::LINE * (1 + 127 + 127) + 1;
+pub const SHEET: usize = text_lines::LINE * (1 + MOST + MOST) + 1;
 
-const LINE: usize = 14;
+// The line of a refusal: a word of as many bytes, the number in six columns, and a line feed.
+const WORD: usize = 7;
 
-// The line that tells a refusal.
+const LINE: usize = WORD + WIDTH + 1;
+
+// The line that tells a refusal. (Its number is written by columns over the 0: formatted output allocates, or has no contract on its bytes.)
 fn refused_line(refusal: Refusal) -> [u8; LINE]
     ensures { result ≡ refused_line (number refusal) }
 {
     let mut line = *b"refused     0\n";
-    columns::write_field(&mut line[7..], refusal.number());
+    columns::write_field(&mut line[WORD..], refusal.number());
     line
 }
 

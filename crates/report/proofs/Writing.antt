@@ -8,7 +8,7 @@ use Rattle.finite.proofs.Sum.{sum_suc, sum_more, sum_range_le, sum_zero_range}
 use Rattle.columns.specs.Writing.{put, written}
 use Rattle.text_lines.specs.Lines.{line_length, line_of, Small}
 use Rattle.text_lines.proofs.Lines.{length_line}
-use Rattle.columns.proofs.Writing.{put_put, put_written, put_nil, put_front, length_put}
+use Rattle.columns.proofs.Writing.{put_put, put_written, put_nil, put_front}
 use Rattle.topology.specs.Networks.{is_reticulation}
 use Rattle.topology.specs.Lines.{network}
 use Rattle.layout.specs.inner.Parts.{top}
@@ -19,6 +19,7 @@ use Rattle.layout.specs.declared.tree.Tree.{Tree}
 use Rattle.layout.specs.declared.parts.Parts.{Parts}
 use Rattle.layout.specs.declared.results.Placed.{Placed}
 use Rattle.report.specs.declared.Totals.{Totals}
+use Rattle.report.specs.declared.Tabled.{Tabled}
 use Rattle.report.specs.inner.Tables.{has_secondary, reticulation_in, reticulation_numbers, node_line, gene_numbers, SmallNode, SmallNodes, SmallGene}
 use Rattle.report.specs.inner.Written.{line_bytes, Telling, Told}
 use Rattle.finite.proofs.Cases.{by_bool}
@@ -92,16 +93,11 @@ module _ (test : ℕ → Bool) (fields : ℕ → List ℕ) where
   pub lines_done : (d e : List ℕ) (start r k n : ℕ) → k ≤ n → n ≤ k → Extended d e start r test fields k → Extended d e start r test fields n
   lines_done d e start r k n a b l = let q : k ≡ n = omega arith in rw q at l
 
-  -- there is room for the next line, and writing keeps the length
+  -- there is room for the next line
   pub lines_room : (d e : List ℕ) (start next k n : ℕ) → k < n → start + line_length * count n test ≤ length d → Extended d e start next test fields k
       → next + line_length * tally (test (k + 1)) ≤ length d
   unfolding count
   lines_room d e start next k n h room l = omega (arith, l.after, sum_more k (λ v. tally (test v)), sum_range_le n (k + 1) (λ v. tally (test v)) (omega arith))
-
-  pub lines_length : (d e : List ℕ) (start next k n : ℕ) → k ≤ n → start + line_length * count n test ≤ length d → Extended d e start next test fields k → length e ≡ length d
-  unfolding count
-  lines_length d e start next k n h room l = ap length l.bytes ∙ length_put d start (lines_where test fields k)
-      (omega (arith, length_lines test fields k, sum_range_le n k (λ v. tally (test v)) h))
 
 -- what is told of a number in turn
 module _ (t : Telling) {d e : List ℕ} {start next v n : ℕ} {line : Option (List ℕ)} (low : 1 ≤ v) (high : v ≤ n)
@@ -154,23 +150,27 @@ pub node_rows : (n : ℕ) (tree : Tree) (parts : Parts) (v : ℕ) → SmallNodes
 node_rows n tree parts v s low high = (s.each v low high).top_row
 
 -- what the two closures tell
-abbrev pub node_lines : Lines → Tree → Parts → Telling
-node_lines lines tree parts = record { test = reticulation_in lines; fields = reticulation_numbers tree parts }
+module _ (t : Tabled) where
+  abbrev lines : Lines
+  lines = t.lines.now
 
-abbrev pub gene_lines : List Placed → Telling
-gene_lines results = record { test = always; fields = gene_numbers results }
+  abbrev pub node_lines : Telling
+  node_lines = record { test = reticulation_in lines; fields = reticulation_numbers t.tree.now t.parts.now }
 
-pub node_told : (lines : Lines) (tree : Tree) (parts : Parts) (v : ℕ) {line : Option (List ℕ)} → 1 ≤ v → v ≤ lines.header.nodes → SmallNode tree parts v → line ≡ node_line lines tree parts v
-    → Told (node_lines lines tree parts) v line
-unfolding node_line
-node_told lines tree parts v low high s e = record {
-  is = e ∙ rw (reticulation_at lines v low high);
-  small = rw e (by_bool (has_secondary lines v) (λ y. rw y (small_node tree parts v (omega (arith, lines.within.few_nodes)) s)) (λ y. rw y tt));
-}
+  abbrev pub gene_lines : Telling
+  gene_lines = record { test = always; fields = gene_numbers t.results.now }
 
-pub gene_told : (results : List Placed) (g : ℕ) {line : Option (List ℕ)} → g ≤ 127 → SmallGene results g → line ≡ Some (gene_numbers results g)
-    → Told (gene_lines results) g line
-gene_told results g few s e = record { is = e; small = rw e (small_gene results g few s) }
+  pub node_told : (v : ℕ) {line : Option (List ℕ)} → 1 ≤ v → v ≤ lines.header.nodes → line ≡ node_line lines t.tree.now t.parts.now v → Told node_lines v line
+  unfolding node_line
+  node_told v low high e = record {
+    is = e ∙ rw (reticulation_at lines v low high);
+    small = rw e (by_bool (has_secondary lines v)
+        (λ y. rw y (small_node t.tree.now t.parts.now v (omega (arith, lines.within.few_nodes)) (t.small_nodes.each v low high)))
+        (λ y. rw y tt));
+  }
+
+  pub gene_told : (g : ℕ) {line : Option (List ℕ)} → 1 ≤ g → g ≤ lines.header.genes → line ≡ Some (gene_numbers t.results.now g) → Told gene_lines g line
+  gene_told g low high e = record { is = e; small = rw e (small_gene t.results.now g (omega (arith, lines.within.few_genes)) (t.small_genes.each g low high)) }
 
 -- a line for each gene: as many as there are genes
 pub room_always : (start m l : ℕ) → start + line_length * m ≤ l → start + line_length * count m always ≤ l

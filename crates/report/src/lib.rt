@@ -1,4 +1,5 @@
-// The report: its lines, each written into what is left of the result.
+// The report: its lines, each written into what is left of the result. (The result and the place in it are two parameters, and the place after it a number:
+// the rules name this form, and of a struct that borrows the result each promise would have to say what the borrowed bytes were and are.)
 #![tactic(auto)]
 
 ghost use Rattle.std.specs.Prelude.{◌≡◌, ℕ, ◌+◌, ◌*◌, ◌≤◌, length, Option, Some, IfSome};
@@ -15,7 +16,8 @@ use layout::results::Results;
 use layout::tree::Tree;
 use text_lines::FIELDS;
 
-// The numbers of the first two lines.
+// The ten numbers of the first two lines, in their order, as the definitions have them. (A `mapping::Score` in place of the first four would set this crate
+// upon `mapping` to save the copying of four fields.)
 #[derive(Clone, Copy)]
 pub struct Totals {
     pub cost: u32,
@@ -109,7 +111,8 @@ fn append(res: &mut [u8], at: usize, line: Option<[u32; FIELDS]>) -> usize
     text_lines::append_line(res, at, &fields)
 }
 
-// The lines of 1 to n, each written into what is left of the result; a number without a line has none.
+// The lines of 1 to n, each written into what is left of the result; a number without a line has none. (What is told is a quantifier of two clauses and no
+// ghost value: a generic function with one has its clauses and its callers' goals without their names.)
 fn write_lines<F: Fn(usize) -> Option<[u32; FIELDS]>>(
     res: &mut [u8],
     start: usize,

@@ -1,12 +1,12 @@
 -- The outcome of each way out of the call. A refusal leaves both buffers as they were; the tests before it failed, so it is the first that applies; and a
 -- sheet that none applies to has its report written.
 -- Assumes nothing.
-use Rattle.std.proofs.Common.{◌≡◌, ℕ, ◌+◌, ◌≤◌, ◌<◌, List, length, true, false, not, sym, ap, ◌∙◌, subst, arith, Result, Ok, Err}
+use Rattle.std.proofs.Common.{◌≡◌, ℕ, ◌+◌, ◌≤◌, ◌<◌, List, length, true, false, not, sym, ap, ◌∙◌, subst, arith, Result, Ok, Err, IsErrAnd}
 use Rattle.finite.specs.Tables.{at, zeros, filled, within}
 use Rattle.finite.specs.Refusals.{verdict}
 use Rattle.finite.proofs.Tables.{within_same, filled_in, zeros_long}
 use Rattle.finite.proofs.Cases.{by_bool}
-use Rattle.finite.proofs.Tests.{not_false}
+use Rattle.std.proofs.lemmas.Bool.{not-false}
 use Rattle.topology.specs.Lines.{network}
 use Rattle.topology.specs.Networks.{Sound}
 use Rattle.layout.specs.Lines.{nodes_in, genes_in}
@@ -21,6 +21,7 @@ use Rattle.sheet.specs.Sheets.{header_in, nodes, genes, line_no, limits, refusal
 use Rattle.refusals.specs.declared.Refusal.{Refusal}
 use Rattle.refusals.specs.declared.Refusal.TheVariants.{ShortScratch, ShortResult, NoHeader, BeyondLimits, BadLines}
 use Rattle.refusals.specs.Numbers.{number}
+use Rattle.refusals.proofs.Numbers.{handed_on}
 use Rattle.sheet.proofs.Limits.{limits_is}
 use Rattle.sheet.proofs.Refusals.{cell_small}
 use Rattle.family.specs.Families.{Contents}
@@ -49,7 +50,7 @@ header_is s h e = by_bool (refusal3 s) (λ t. no_header (rw t at e)) (λ t.
     by_bool (not (limits (line_no s 0).line)) (λ f. no_header (rw (t, f) at e)) (λ f.
     let q : Ok h ≡ Ok (header_in s) = rw (t, f) at e in
     let z : h ≡ header_in s = kind q in
-    record { three = t; four = f; header = z; limited = rw z (limits_is _ (not_false _ f)) }))
+    record { three = t; four = f; header = z; limited = rw z (limits_is _ (not-false _ f)) }))
   where
     kind : {g h : Header} → ◌≡◌ {A = Result Header Refusal} (Ok g) (Ok h) → g ≡ h
     kind e = cc
@@ -118,7 +119,7 @@ module _ (s : List ℕ) (h : Header) (k : HeaderIs s h) where
 
     pub numbered : (b w : ℕ) → least_bytes ≤ b → least_words ≤ w → Numbered lines b w
     numbered b w lb lw = record {
-      sized = record { room = lb; space = lw };
+      sized = record { limits = subst WithinLimits (sym R.1) k.limited; room = lb; space = lw };
       stamps = rw (header_same, nodes_same) stamps_small;
     }
 
@@ -144,3 +145,7 @@ header_outcome s d u r e lb lw = refuses _ r (contents_of s) d u (header_refused
 -- a network that passes 6 to 10 is sound
 pub sound_in : (n : ℕ) (l : NodeColumns) → verdict (network_refusals (nodes_in n l)) ≡ 0 → Sound (network (nodes_in n l))
 sound_in n l e = (Acceptance.accepted (nodes_in n l) (Acceptance.no_others n l) e).sound
+
+-- a refusal that `?` hands on is the outcome where it is the first that applies
+pub refused_by : (k : ℕ) (X : Contents) (d u : List ℕ) (x : Result ℕ Refusal) (r : Refusal) → IsErrAnd x (λ q. q ≡ r) → k ≡ number r → Outcome k X d d u u x
+refused_by k X d u x r h e = rw (handed_on x r h) (refuses k r X d u e)

@@ -3,7 +3,7 @@
 -- Assumes nothing.
 use Rattle.std.proofs.Common.{ℕ, ◌≡◌, List, length, arith}
 use Rattle.finite.proofs.Refusals.{Low, verdict_low}
-use Rattle.finite.proofs.Tests.{not_false}
+use Rattle.std.proofs.lemmas.Bool.{not-false}
 use Rattle.layout.specs.Headers.{WithinLimits}
 use Rattle.sheet.specs.Sheets.{header_in, refusal4}
 use Rattle.sheet.proofs.Limits.{limits_is}
@@ -32,7 +32,7 @@ no_others s = none_outside _ _ _ _ _
 module _ (s : List ℕ) (b w : ℕ) (e : refusal s b w ≡ 0) where
   within : WithinLimits (header_in s)
   unfolding refusal4
-  within = limits_is _ (not_false _ (text_passes s b w e).1)
+  within = limits_is _ (not-false _ (text_passes s b w e).1)
 
   admitted : Admitted (contents_of s).nodes (contents_of s).genes (contents_of s).costs
   unfolding contents_of node_lines gene_lines

@@ -5,20 +5,18 @@
 // components of 8, n = m = 127, and damaged sheets for every refusal.
 #![tactic(auto)]
 
+use reply::SHEET;
 use std::alloc::Global;
 use std::rt::Files;
 use std::{env, io};
-
-// The room for a sheet: a byte more than the longest has.
-const SHEET: usize = 31 * (1 + 127 + 127) + 1;
 
 // How many words of the scratch are written: the 35 of sheet K's table, and five that it leaves as they were.
 const SHOWN: usize = 40;
 
 // What the scratch is filled with, and the word where a gene has no history from a node: no costs, which are below 1,000,000.
-const UNTOUCHED: u32 = 4294967294;
+const UNTOUCHED: u32 = u32::MAX - 1;
 
-const NO_HISTORY: u32 = 4294967295;
+const NO_HISTORY: u32 = u32::MAX;
 
 // A word in six columns, and what follows it: '-' and '.' stand for the words that are no costs.
 fn show_word(rt: &impl Print, word: u32, end: char) -> io::Result<()> {

@@ -1,6 +1,6 @@
 -- The loops of the search over what is prepared: the facts of crate optimum's machine and of the mapping, as the functions ask for them.
 -- Assumes nothing.
-use Rattle.std.proofs.Common.{◌≡◌, ℕ, ◌+◌, ◌≤◌, ◌<◌, List, None, length, set, refl, ◌∙◌, ap, arith}
+use Rattle.std.proofs.Common.{◌≡◌, ℕ, ◌+◌, ◌≤◌, ◌<◌, List, None, length, set, refl, ap, arith}
 use Rattle.finite.specs.Tables.{at}
 use Rattle.layout.specs.Lines.{nodes_in, network_of}
 use Rattle.layout.specs.inner.Parts as Q
@@ -9,14 +9,12 @@ use Rattle.layout.specs.inner.Choices.{best, blank}
 use Rattle.layout.specs.inner.Genes.{left, leaf, gene_tree}
 use Rattle.layout.specs.Headers.{costs}
 use Rattle.layout.specs.declared.lines.Lines.{Lines}
-use Rattle.layout.specs.declared.parts.Parts.{Parts}
 use Rattle.layout.specs.declared.choices.Choices.{Choices}
 use Rattle.layout.specs.declared.tree.Tree.{Tree}
 use Rattle.layout.specs.declared.genes.Genes.{Genes}
 use Rattle.layout.specs.declared.results.Placed.{Placed}
-use Rattle.topology.specs.Networks.{Network}
+use Rattle.topology.specs.Networks.{Network, Sound}
 use Rattle.topology.specs.Switchings.{Switching}
-use Rattle.topology.specs.Components.{reticulation_count}
 use Rattle.topology.specs.Lines.{network}
 use Rattle.reconciliation.specs.GeneTrees.{GeneTree}
 use Rattle.reconciliation.specs.Costs.{Costs}
@@ -30,12 +28,25 @@ use Rattle.mapping.specs.declared.Score.{Score}
 use Rattle.search.specs.inner.Prepared.{Prepared, Working, Assembled, score_under}
 use Rattle.search.specs.inner.Steps.{Settling, SettledBy, Finished, Reached, Awaiting, Last}
 use Rattle.search.specs.inner.Searched.{Searched}
+use Rattle.search.specs.declared.given.Given.{Given}
 use Rattle.search.specs.declared.Stage.{Stage}
 use Rattle.search.specs.declared.Found.{Found}
 use Rattle.search.proofs.Assembling.{family, score_is, genes_are}
 use Rattle.search.proofs.Steps as S
 
-module _ {lines : Lines} {parts : Parts} {genes : Genes} (P : Prepared lines parts genes) where
+module _ (given : Given) where
+  abbrev lines : Lines
+  lines = given.network.lines.now
+
+  abbrev genes : Genes
+  genes = given.genes.now
+
+  abbrev ok : Sound (network_of lines)
+  ok = given.network.sound
+
+  abbrev P : Prepared lines genes
+  P = given.prepared
+
   abbrev N : Network
   N = network_of lines
 
@@ -55,14 +66,14 @@ module _ {lines : Lines} {parts : Parts} {genes : Genes} (P : Prepared lines par
   -- the switching of a column of settings, evaluated
   module _ (f : ℕ → ℕ) {t : Tree} (H : Held N (assembled N f) t) where
     pub family_held : Family lines.header t genes
-    family_held = family lines parts genes P (assembled N f) t H
+    family_held = family given (assembled N f) t H
 
     pub assembly : {r : List Placed} {s : Score} → s ≡ score_of (tree_of lines.header.nodes t) G C → Evaluated (tree_of lines.header.nodes t) G r → Assembled lines genes f t r s
     assembly {r} {s} e v = record {
       held = H;
       lent = v.lent;
-      mapped = genes_are lines parts genes P (assembled N f) t H r v;
-      score = score_is lines parts genes P (assembled N f) t H s e;
+      mapped = genes_are given (assembled N f) t H r v;
+      score = score_is given (assembled N f) t H s e;
     }
 
   pub works_first : {σ : Switching} {t : Tree} {r : List Placed} → Held N σ t → Lent G r → Working lines genes t r
@@ -82,7 +93,7 @@ module _ {lines : Lines} {parts : Parts} {genes : Genes} (P : Prepared lines par
     at_most = omega (arith, A.left)
 
     pub step_settles : Settling s
-    step_settles = S.settling N P.sound G C low P.few ch s A.reached A.inside at_most
+    step_settles = S.settling N ok G C low P.few ch s A.reached A.inside at_most
 
     module _ (long : length ch.setting ≡ 128) (bests_long : length ch.best ≡ 128) {t : Tree} {r : List Placed} {score : Score}
         (B : Assembled lines genes (at (set ch.setting (s.done + 1) s.setting)) t r score) {bests : List ℕ} {z : Stage} (D : SettledBy s score.cost ch.best bests z) where
@@ -92,21 +103,13 @@ module _ {lines : Lines} {parts : Parts} {genes : Genes} (P : Prepared lines par
 
       pub step_reaches : Reached N G C (record { setting = set ch.setting (s.done + 1) s.setting; best = bests }) z × (z.done ≡ s.done) × (z.setting ≡ s.setting + 1)
       step_reaches =
-          let q = S.trial_is N P.sound G C low P.few ch s A.reached A.inside at_most long score.cost cost_is in
-          let d = S.stepped_done N P.sound G C low P.few ch s A.reached A.inside at_most long score.cost q A.left bests_long bests z D in
-          (S.stepped N P.sound G C low P.few ch s A.reached A.inside at_most long score.cost q A.left bests_long bests z D, d.0, d.1)
+          let q = S.trial_is N ok G C low P.few ch s A.reached A.inside at_most long score.cost cost_is in
+          let d = S.stepped_done N ok G C low P.few ch s A.reached A.inside at_most long score.cost q A.left bests_long bests z D in
+          (S.stepped N ok G C low P.few ch s A.reached A.inside at_most long score.cost q A.left bests_long bests z D, d.0, d.1)
 
-  -- the settings of a component
-  module _ {c k : ℕ} (lc : 1 ≤ c) (hc : c ≤ lines.header.nodes) (ek : k ≡ Q.reticulation_count parts c) where
-    count_is : k ≡ reticulation_count N c
-    count_is = ek ∙ P.parted.counts c (record { low = lc; high = omega (arith, size_is) })
-
-    pub tried_is : {tried : ℕ} → tried ≡ trials_of k → tried ≡ settings N c
-    tried_is {tried} e = S.settings_are N c k tried count_is e
-
-  -- the same component, by the stage's number
-  pub tried_still : {d k m : ℕ} → m ≡ settings N (d + 1) → k ≡ d → m ≡ settings N (k + 1)
-  tried_still e q = rw q e
+  -- how many settings a component has, also by the number k that a stage of it has
+  pub tried_is : {d k : ℕ} → d < lines.header.nodes → k ≡ d → {tried : ℕ} → tried ≡ trials_of (Q.reticulation_count given.network.parts.now (d + 1)) → tried ≡ settings N (k + 1)
+  tried_is {d} l q {tried} e = rw q (S.settings_are N (d + 1) _ tried (given.network.parted.counts (d + 1) (record { low = omega arith; high = omega (arith, size_is) })) e)
 
   module _ {ch : Choices} {s : Stage} (R : Reached N G C ch s) (l : s.done < lines.header.nodes) {m : ℕ} (em : m ≡ settings N (s.done + 1)) where
     in_size : s.done < N.size
@@ -118,23 +121,23 @@ module _ {lines : Lines} {parts : Parts} {genes : Genes} (P : Prepared lines par
     pub finishes : s.setting ≤ m → m ≤ s.setting → {tried : List ℕ} {z : Stage} → Finished s ch.setting tried z
         → Reached N G C (record { setting = tried; best = ch.best }) z × (z.done ≡ s.done + 1) × (z.setting ≡ 0)
     finishes a b {tried} {z} F = (
-      S.finished N P.sound G C low P.few ch s R in_size (omega (arith, em)) tried z F (omega (arith, em)),
+      S.finished N ok G C low P.few ch s R in_size (omega (arith, em)) tried z F (omega (arith, em)),
       ap (λ (x : Stage). x.done) F.stage,
       ap (λ (x : Stage). x.setting) F.stage,
     )
 
   pub begins : {ch : Choices} {s : Stage} → ch ≡ blank → (s.done ≡ 0) × ((s.setting ≡ 0) × ((s.least ≡ None) × (s.count ≡ 0))) → Reached N G C ch s
-  begins {ch} {s} e z = S.reached_start N P.sound G C low P.few ch s e z.0 z.1.0 z.1.1.0 z.1.1.1
+  begins {ch} {s} e z = S.reached_start N ok G C low P.few ch s e z.0 z.1.0 z.1.1.0 z.1.1.1
 
   pub ends : {ch : Choices} {s : Stage} → Reached N G C ch s → s.setting ≡ 0 → s.done ≤ lines.header.nodes → lines.header.nodes ≤ s.done → Last N G C (best ch) s.count
-  ends {ch} {s} R z a b = S.reached_end N P.sound G C low P.few ch s R z (omega (arith, size_is)) (omega (arith, size_is))
+  ends {ch} {s} R z a b = S.reached_end N ok G C low P.few ch s R z (omega (arith, size_is)) (omega (arith, size_is))
 
   pub searched : {ch : Choices} {t : Tree} {r : List Placed} {f : Found} → Last N G C (best ch) f.trials → Assembled lines genes (best ch) t r f.score → Searched lines genes ch t r f
   searched {ch} {t} {r} {f} L A = record {
     steps = search_state N G C;
     last = L;
-    count = last_count N P.sound G C (best ch) f.trials L;
-    bests = λ c a b. last_best N P.sound G C (best ch) f.trials L c a (omega (arith, size_is));
+    count = last_count N ok G C (best ch) f.trials L;
+    bests = λ c a b. last_best N ok G C (best ch) f.trials L c a (omega (arith, size_is));
     assembly = A;
-    optimal = last_optimal N P.sound G C (best ch) f.trials L P.rooted P.seated;
+    optimal = last_optimal N ok G C (best ch) f.trials L P.rooted P.seated;
   }

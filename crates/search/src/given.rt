@@ -5,15 +5,13 @@ ghost use Rattle.search.specs.inner.Prepared.{Prepared};
 ghost use Rattle.search.specs.inner.Props.{prepared_prop};
 
 use layout::genes::Genes;
-use layout::lines::Lines;
-use layout::parts::Parts;
+use layout::networks::PartedNetwork;
 
 // A network and a gene tree that passed the refusals, with all that does not depend on the switching worked out once.
-// (That the ghost field's record has one proof at most is proved, since it names a root and a gene's side: specs/inner/Props.)
+// (That its record has one proof at most is proved, since it names a gene's side: specs/inner/Props.)
 #[derive(Clone, Copy)]
 pub struct Given<'a> {
-    pub lines: &'a Lines,
-    pub parts: &'a Parts,
+    pub network: PartedNetwork<'a>,
     pub genes: &'a Genes,
-    ghost prepared: { Prepared lines.now parts.now genes.now } by { prepared_prop lines.now parts.now genes.now },
+    ghost prepared: { Prepared network.lines.now genes.now } by { prepared_prop network.lines.now genes.now },
 }

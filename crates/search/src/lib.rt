@@ -1,5 +1,5 @@
-// 01's search, "a plain machine whose state is a value": the bests by top, in the table of choices, and the count of trials. All functions are lent one
-// prepared network and gene tree (`Given`), and the tables to work in (`Work`).
+// 01's search, "a plain machine whose state is a value": the bests by top, in the table of choices, and the count of trials. Its steps are methods of a
+// prepared network and gene tree (`Given`), which are lent the tables to work in (`Work`).
 #![tactic(auto)]
 
 ghost use Rattle.std.specs.Prelude.{◌≡◌, ◌+◌, ◌≤◌, ◌<◌};
@@ -18,10 +18,12 @@ use layout::choices::Choices;
 use layout::results::Results;
 use layout::tree::Tree;
 use mapping::Score;
+use mapping::seated::SeatedGenes;
 use tables::Column;
 
 // The tables that the search works in: the settings tried and the bests, the tree of a switching, and the genes under it. (Lent and filled in place, as by
-// `switching::start`: tables that are returned are copied, which made a typical call 5 % slower.)
+// `switching::start`: tables that are returned are copied, which made a typical call 9 % slower. `WorkingIn` is no ghost field: it speaks of `Given` too, and
+// does not hold yet of the blank tables that `run` is lent.)
 #[derive(Drop)]
 pub struct Work {
     pub choices: Choices,
@@ -29,9 +31,9 @@ pub struct Work {
     pub results: Results,
 }
 
-// Where the search stands between two steps, which the public `step` is given and gives back, so it has the numbers that the loops count too: all settings
-// of the components up to one are scored, and of the next component those below a setting, the best of which costs the least, if there is one; and so many
-// settings are scored in all.
+// Where the search stands between two steps: the settings of the components up to `done` are scored, and of the next one those below `setting`, the best of
+// which costs `least`, if there is one; `count` settings are scored in all. (The loops count `done` and `setting` too: the promise of `step`, "One step scores
+// the next setting", is about a state that says by itself which is next.)
 #[derive(Clone, Copy, Default)]
 pub struct Stage {
     pub done: usize,
@@ -60,10 +62,7 @@ fn settings_of(k: u32) -> u32
 fn takes(least: Option<u32>, cost: u32) -> bool
     ensures { result ≡ takes least cost }
 {
-    match least {
-        None => true,
-        Some(so_far) => cost < so_far,
-    }
+    least.is_none_or(|so_far| cost < so_far)
 }
 
 // The next setting was found to cost this.
@@ -101,11 +100,17 @@ impl Given<'_> {
         requires { WorkingIn self.now tree.old results.old }
         ensures { AssembledIn self.now (at settings.now) tree.new results.new result }
     {
-        switching::switch(self.lines, self.parts, settings, tree);
-        mapping::evaluate(self.lines.header, tree, self.genes, results)
+        switching::switch(self.network, settings, tree);
+        let seated = SeatedGenes {
+            header: self.network.lines.header,
+            tree,
+            genes: self.genes,
+        };
+        seated.evaluate(results)
     }
 
     // "One step scores the next setting of a single component .. and raises the count by one".
+    #[tactic(auto, using(crate::proofs::Turns::step_fits))]
     pub fn step(&self, work: &mut Work, s: Stage) -> Stage
         requires working { WorkingIn self.now work.old.tree work.old.results }
         requires awaiting { AwaitingIn self.now work.old s }
@@ -120,11 +125,11 @@ impl Given<'_> {
     // All settings of the next component, "by rising number".
     fn component(&self, work: &mut Work, s: Stage) -> Stage
         requires working { WorkingIn self.now work.old.tree work.old.results }
-        requires reached { ReachedIn self.now work.old s × (s.done < self.now.lines.now.header.nodes) × (s.setting ≡ 0) }
+        requires reached { ReachedIn self.now work.old s × (s.done < self.now.network.lines.now.header.nodes) × (s.setting ≡ 0) }
         ensures reached_after { ReachedIn self.now work.new result × (result.done ≡ s.done + 1) × (result.setting ≡ 0) }
         ensures working { WorkingIn self.now work.new.tree work.new.results }
     {
-        let tried = settings_of(self.parts.reticulation_count[s.done + 1]);
+        let tried = settings_of(self.network.parts.reticulation_count[s.done + 1]);
         let mut stage = s;
         for _ in 0..tried {
             stage = self.step(work, stage);
@@ -139,7 +144,7 @@ impl Given<'_> {
         ensures working { WorkingIn self.now work.new.tree work.new.results }
     {
         let mut stage = Stage::default();
-        for _ in 0..self.lines.header.nodes {
+        for _ in 0..self.network.lines.header.nodes {
             stage = self.component(work, stage);
         }
         stage.count
@@ -150,8 +155,12 @@ impl Given<'_> {
         requires { (work.old.choices ≡ blank) × (work.old.tree ≡ blank_tree) × (work.old.results ≡ blank_results) }
         ensures { SearchedIn self.now work.new result }
     {
-        switching::start(self.lines, self.parts, &mut work.tree);
-        mapping::seat_leaves(self.lines.header.genes, self.genes, &mut work.results);
+        switching::start(self.network, &mut work.tree);
+        mapping::seat_leaves(
+            self.network.lines.header.genes,
+            self.genes,
+            &mut work.results,
+        );
         let trials = self.components(work);
         let score = self.evaluated(&work.choices.best, &mut work.tree, &mut work.results);
         Found { trials, score }

@@ -6,7 +6,8 @@ use Rattle.finite.specs.Tests.{same, under}
 use Rattle.finite.specs.Range.{any, every, children}
 use Rattle.finite.specs.Refusals.{AllTell, no_more, one_more}
 use Rattle.finite.proofs.Cases.{by_bool, clash}
-use Rattle.finite.proofs.Tests.{is_same, same_is, not_same, same_not, is_under, under_is, and_l, and_r, and_yes, or_yes_l, or_yes_r, or_r, not_true, not_false, not_yes, not_no}
+use Rattle.std.proofs.lemmas.Bool.{and_from, or_left, or_right, not-true, not-false, not_from_false, not_from_true}
+use Rattle.finite.proofs.Tests.{is_same, same_is, not_same, same_not, is_under, under_is, and_l, and_r, or_r}
 use Rattle.finite.proofs.Every.{every_at, is_every}
 use Rattle.finite.proofs.Refusals.{tell}
 use Rattle.topology.specs.Networks.{Network, Node}
@@ -25,8 +26,8 @@ module _ (N : Network) (v : ℕ) where
   reticulation_is : reticulation_with (N.principal v) (N.secondary v) a b ≡ true → IsReticulation N v
   unfolding reticulation_with
   reticulation_is h = record {
-    first_parent = same_not _ _ (not_true _ (search (and_l, and_r)));
-    second_parent = same_not _ _ (not_true _ (search (and_l, and_r)));
+    first_parent = same_not _ _ (not-true _ (search (and_l, and_r)));
+    second_parent = same_not _ _ (not-true _ (search (and_l, and_r)));
     one_principal = same_is _ _ (search (and_l, and_r));
     no_secondary = same_is _ _ (search (and_l, and_r));
   }
@@ -63,13 +64,13 @@ module _ (N : Network) (v : ℕ) where
   unfolding shapeless
   shape_is h = by_bool (reticulation_with (N.principal v) (N.secondary v) a b) (λ t. reticulation (reticulation_is t))
       (λ q. by_bool (inner_with (N.secondary v) a b) (λ t. inner (inner_is t))
-      (λ z. leaf (leaf_is (rw (q, z) at (not_false (reticulation_with (N.principal v) (N.secondary v) a b || inner_with (N.secondary v) a b || leaf_with (N.secondary v) a b) h)))))
+      (λ z. leaf (leaf_is (rw (q, z) at (not-false (reticulation_with (N.principal v) (N.secondary v) a b || inner_with (N.secondary v) a b || leaf_with (N.secondary v) a b) h)))))
 
   is_shape : Shape N v → shapeless (N.principal v) (N.secondary v) a b ≡ false
   unfolding shapeless
   is_shape (reticulation r) = rw (is_reticulation_lem r)
-  is_shape (inner r) = not_no _ (or_yes_l _ _ (or_yes_r (reticulation_with (N.principal v) (N.secondary v) a b) _ (is_inner r)))
-  is_shape (leaf r) = not_no _ (or_yes_r (reticulation_with (N.principal v) (N.secondary v) a b || inner_with (N.secondary v) a b) _ (is_leaf r))
+  is_shape (inner r) = not_from_true _ (or_left _ _ (or_right (reticulation_with (N.principal v) (N.secondary v) a b) _ (is_inner r)))
+  is_shape (leaf r) = not_from_true _ (or_right (reticulation_with (N.principal v) (N.secondary v) a b || inner_with (N.secondary v) a b) _ (is_leaf r))
 
 module _ (L : NodeLines) where
   -- 8
@@ -113,7 +114,7 @@ module _ (L : NodeLines) where
   alike v w = leaf_at L v && leaf_at L w && not (same v w) && same (L.species v) (L.species w)
 
   alike_told : (v w : ℕ) → Node (network L) v → Node (network L) w → alike v w ≡ true → Refusal9 L
-  alike_told v w k j t = two_alike v w k j (same_not _ _ (not_true (same v w) (search (and_l, and_r))))
+  alike_told v w k j t = two_alike v w k j (same_not _ _ (not-true (same v w) (search (and_l, and_r))))
       (leaf_at_is v (search (and_l, and_r))) (leaf_at_is w (search (and_l, and_r))) (same_is _ _ (search (and_l, and_r)))
 
   from_9 : refusal9 L ≡ true → Refusal9 L
@@ -121,15 +122,15 @@ module _ (L : NodeLines) where
   from_9 h = by_bool (any L.size without)
       (λ t. by_some L without t (λ v k q. leaf_without v k (leaf_at_is v (and_l _ (same (L.species v) 0) q)) (same_is _ _ (and_r (leaf_at L v) _ q))))
       (λ a. by_bool (any L.size other_with)
-      (λ t. by_some L other_with t (λ v k q. other_with_lem v k (leaf_at_not v (not_true _ (and_l _ (not (same (L.species v) 0)) q))) (same_not _ _ (not_true _ (and_r (not (leaf_at L v)) _ q)))))
+      (λ t. by_some L other_with t (λ v k q. other_with_lem v k (leaf_at_not v (not-true _ (and_l _ (not (same (L.species v) 0)) q))) (same_not _ _ (not-true _ (and_r (not (leaf_at L v)) _ q)))))
       (λ b. let t : any L.size (λ v. any L.size (alike v)) ≡ true = rw (a, b) at h in
       by_some L (λ v. any L.size (alike v)) t (λ v k q. by_some L (alike v) q (λ w j z. alike_told v w k j z))))
 
   to_9 : Refusal9 L → refusal9 L ≡ true
   unfolding refusal9
-  to_9 (leaf_without v k f e) = or_yes_l _ _ (or_yes_l _ _ (some_node L without v k (rw (is_leaf_at v f, is_same e))))
-  to_9 (other_with_lem v k f d) = or_yes_l _ _ (or_yes_r (any L.size without) _ (some_node L other_with v k (rw (not_leaf_at v f, not_same d))))
-  to_9 (two_alike v w k j d f g e) = or_yes_r (any L.size without || any L.size other_with) _
+  to_9 (leaf_without v k f e) = or_left _ _ (or_left _ _ (some_node L without v k (rw (is_leaf_at v f, is_same e))))
+  to_9 (other_with_lem v k f d) = or_left _ _ (or_right (any L.size without) _ (some_node L other_with v k (rw (not_leaf_at v f, not_same d))))
+  to_9 (two_alike v w k j d f g e) = or_right (any L.size without || any L.size other_with) _
       (some_node L (λ v. any L.size (alike v)) v k (some_node L (alike v) w j (rw (is_leaf_at v f, is_leaf_at w g, not_same d, is_same e))))
 
   pub reading_9 : (refusal9 L ≡ true) ↔ Refusal9 L
@@ -142,8 +143,8 @@ module _ (L : NodeLines) where
 
   pub is_child : (v w : ℕ) → Child L v w → child_at L v w ≡ true
   unfolding child_at child_with
-  is_child v w (by_principal e) = or_yes_l _ _ (is_same e)
-  is_child v w (by_secondary e) = or_yes_r (same (L.principal w) v) _ (is_same e)
+  is_child v w (by_principal e) = or_left _ _ (is_same e)
+  is_child v w (by_secondary e) = or_right (same (L.principal w) v) _ (is_same e)
 
   only_told : (v : ℕ) → Node (network L) v → only_reticulations_at L v ≡ true → Refusal10 L
   unfolding only_reticulations_at reticulation_if_child
@@ -153,16 +154,16 @@ module _ (L : NodeLines) where
     child = w;
     child_node = j;
     is_child = child_is v w q;
-    all_reticulations = λ x i f. same_not _ _ (not_true _ (or_r (not (child_at L v x)) _
-        (every_at L.size (reticulation_if_child L v) (and_r (any L.size (child_at L v)) _ t) x i.low (node_high L x i)) (not_no _ (is_child v x f))));
+    all_reticulations = λ x i f. same_not _ _ (not-true _ (or_r (not (child_at L v x)) _
+        (every_at L.size (reticulation_if_child L v) (and_r (any L.size (child_at L v)) _ t) x i.low (node_high L x i)) (not_from_true _ (is_child v x f))));
   })
 
   only_is : (r : Refusal10 L) → only_reticulations_at L r.node ≡ true
   unfolding only_reticulations_at reticulation_if_child
-  only_is r = and_yes _ _ (some_node L (child_at L r.node) r.child r.child_node (is_child r.node r.child r.is_child))
+  only_is r = and_from _ _ (some_node L (child_at L r.node) r.child r.child_node (is_child r.node r.child r.is_child))
       (is_every L.size (reticulation_if_child L r.node) (λ w l u. by_bool (child_at L r.node w)
-      (λ t. or_yes_r (not (child_at L r.node w)) _ (not_yes _ (not_same (r.all_reticulations w (node_of L w l u) (child_is r.node w t)))))
-      (λ t. or_yes_l _ _ (not_yes _ t))))
+      (λ t. or_right (not (child_at L r.node w)) _ (not_from_false _ (not_same (r.all_reticulations w (node_of L w l u) (child_is r.node w t)))))
+      (λ t. or_left _ _ (not_from_false _ t))))
 
   pub reading_10 : (refusal10 L ≡ true) ↔ Refusal10 L
   unfolding refusal10

@@ -6,7 +6,7 @@ ghost use Rattle.shapes.specs.inner.ShortForms.{plain_parent};
 ghost use Rattle.shapes.specs.inner.Counts.{Counted};
 
 use layout::lines::Lines;
-use tables::{Column, child_counts, fill};
+use tables::{Column, ZEROS, child_counts, fill};
 
 #[derive(Clone, Copy)]
 pub struct Counts {
@@ -38,15 +38,15 @@ pub fn counted(lines: &Lines) -> Counts
 {
     let n = lines.header.nodes;
     let mut counts = Counts {
-        principals: [0; 128],
-        secondaries: [0; 128],
-        plains: [0; 128],
-        bearers: [0; 128],
+        principals: ZEROS,
+        secondaries: ZEROS,
+        plains: ZEROS,
+        bearers: ZEROS,
     };
     child_counts(n, &lines.nodes.principal, &mut counts.principals);
     child_counts(n, &lines.nodes.secondary, &mut counts.secondaries);
     child_counts(n, &lines.nodes.species, &mut counts.bearers);
-    let mut plain = [0; 128];
+    let mut plain = ZEROS;
     fill(n, |v| plain_parent(lines, v), &mut plain);
     child_counts(n, &plain, &mut counts.plains);
     counts

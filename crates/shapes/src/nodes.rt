@@ -102,13 +102,13 @@ impl<'a> Shapes<'a> {
     // How many nodes bear species k. Species are most often numbered from 1, so those up to n are counted once, and only others one by one.
     // (As `bearer` of crate `gene_tree` looks up a node; a count and a node have not one table.)
     #[tactic(auto, using(crate::proofs::AsRead::bearers_read))]
-    fn bearers(&self, k: u32) -> u32
+    fn bearers(&self, k: usize) -> u32
         requires { k ≢ 0 }
         ensures { result ≡ children self.now.lines.now.header.nodes (at self.now.lines.now.nodes.species) k }
     {
         let n = self.lines.header.nodes;
-        if k as usize <= n {
-            return self.counts.bearers[k as usize];
+        if k <= n {
+            return self.counts.bearers[k];
         }
         count_of(n, &self.lines.nodes.species, k)
     }
@@ -119,7 +119,7 @@ impl<'a> Shapes<'a> {
         requires { (1 ≤ v) × (v ≤ self.now.lines.now.header.nodes) }
         ensures { result ≡ wrong_species_at (nodes_of self.now.lines.now) v }
     {
-        let k = self.lines.nodes.species[v];
+        let k = self.lines.nodes.species[v] as usize;
         if self.arcs(v).is_leaf() {
             k == 0 || self.bearers(k) != 1
         } else {

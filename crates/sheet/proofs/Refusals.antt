@@ -6,7 +6,8 @@ use Rattle.finite.specs.Tests.{same}
 use Rattle.finite.specs.Range.{every}
 use Rattle.finite.specs.Tables.{at}
 use Rattle.finite.proofs.Cases.{by_bool, clash}
-use Rattle.finite.proofs.Tests.{is_same, same_is, and_l, and_r, not_true, not_false, not_yes}
+use Rattle.std.proofs.lemmas.Bool.{not-true, not-false, not_from_false}
+use Rattle.finite.proofs.Tests.{is_same, same_is, and_l, and_r}
 use Rattle.finite.proofs.Every.{every_at, is_every}
 use Rattle.layout.specs.Headers.{WithinLimits}
 use Rattle.layout.specs.declared.Header.{Header}
@@ -58,14 +59,14 @@ header_same s ns l = rw (
 pub reading_3 : (s : List ℕ) → (refusal3 s ≡ true) ↔ Refusal3 s
 unfolding refusal3
 reading_3 s = (
-  (λ t ns l. clash (found_line s 0 ns l) (not_true (is_line s 0) t)),
-  λ none. not_yes (is_line s 0) (by_bool (is_line s 0) (λ t. absurd (none _ (line_found s 0 t))) (λ t. t)),
+  (λ t ns l. clash (found_line s 0 ns l) (not-true (is_line s 0) t)),
+  λ none. not_from_false (is_line s 0) (by_bool (is_line s 0) (λ t. absurd (none _ (line_found s 0 t))) (λ t. t)),
 )
 
 -- where 3 does not apply, the first line is there
 pub header_line : (s : List ℕ) → refusal3 s ≡ false → Line s 0 (line_no s 0).line
 unfolding refusal3
-header_line s f = line_found s 0 (not_false (is_line s 0) f)
+header_line s f = line_found s 0 (not-false (is_line s 0) f)
 
 -- 4: the header is beyond the limits
 pub reading_4 : (s : List ℕ) → refusal3 s ≡ false → (refusal4 s ≡ true) ↔ Refusal4 s
@@ -74,9 +75,9 @@ reading_4 s f = (
   (λ t. record {
     numbers = (line_no s 0).line;
     line = header_line s f;
-    beyond = λ l. clash (sym (is_limits _ l)) (not_true (limits (line_no s 0).line) t);
+    beyond = λ l. clash (sym (is_limits _ l)) (not-true (limits (line_no s 0).line) t);
   }),
-  λ r. not_yes (limits (line_no s 0).line) (by_bool (limits (line_no s 0).line)
+  λ r. not_from_false (limits (line_no s 0).line) (by_bool (limits (line_no s 0).line)
       (λ t. absurd (r.beyond (subst (λ (h : Header). WithinLimits h) (header_same s r.numbers r.line) (limits_is _ t)))) (λ t. t)),
 )
 
@@ -119,7 +120,7 @@ later s = whole s (nodes s) (genes s) && every (nodes s) (node_line s) && every 
 
 pub well_formed : (s : List ℕ) → refusal5 s ≡ false → WellFormed s (nodes s) (genes s)
 unfolding refusal5 whole
-well_formed s f = let t = not_false (later s) f in
+well_formed s f = let t = not-false (later s) f in
     let lines = and_l (whole s (nodes s) (genes s) && every (nodes s) (node_line s)) _ t in
     record {
       total = same_is _ _ (and_l (whole s (nodes s) (genes s)) _ lines);
@@ -143,7 +144,7 @@ reading_5 s f = (
 
 pub within_limits : (s : List ℕ) → refusal4 s ≡ false → WithinLimits (header_in s)
 unfolding refusal4
-within_limits s e = limits_is _ (not_false _ e)
+within_limits s e = limits_is _ (not-false _ e)
 
 -- what the header comes to, by cases
 pub headed_is : (s : List ℕ) → HeadedIs s (header_of s)

@@ -4,16 +4,19 @@
 ghost use Rattle.std.specs.Prelude.{◌≡◌, ◌+◌, ◌≤◌, ◌&&◌};
 ghost use Rattle.finite.specs.Tables.{at};
 ghost use Rattle.finite.specs.Tests.{same};
-ghost use Rattle.layout.specs.Headers.{WithinLimits};
+ghost use Rattle.layout.specs.Headers.{FewLines};
 ghost use Rattle.sheet.specs.Sheets.{line_no, is_line, node_line, gene_line, header_of, HeadedIs, limits, whole, told, NodesRead, GenesRead, LinesRead};
 
 use columns::Cursor;
 use layout::Header;
 use layout::lines::{GeneColumns, Lines, NodeColumns};
 use refusals::Refusal;
+use tables::{MOST, ZEROS};
 use text_lines::{FIELDS, LINE};
 
-// The numbers of line i, read at its place, as the definitions have it: where a line before it is malformed, there is no cursor to go on from.
+// The numbers of line i, read at its place: the definitions (`line_no`, `node_line`) speak of the place of a line, and a cursor handed on from the line before
+// would have to be shown to be that place.
+#[tactic(auto, using(crate::proofs::Reading::line_some, crate::proofs::Reading::line_none))]
 fn line(s: &[u8], i: usize) -> Option<[u32; FIELDS]>
     requires { i ≤ 254 }
     ensures { result ≡ told (is_line s.now i) (line_no s.now i).line }
@@ -28,28 +31,28 @@ fn within_limits(line: &[u32; FIELDS]) -> bool
     ensures { result ≡ limits line.now }
 {
     let [nodes, genes, duplication, transfer, loss] = *line;
-    if !(1..=127).contains(&nodes) || !(1..=127).contains(&genes) {
+    if !(1..=MOST as u32).contains(&nodes) || !(1..=MOST as u32).contains(&genes) {
         return false;
     }
     duplication <= 99 && transfer <= 99 && loss <= 99
 }
 
-// The header: refused where there is no header line, or where it is beyond the limits.
+// The header: refused where there is no header line, or where it is beyond the limits. (No `TryFrom` of the five numbers: it would stand in `layout`, which
+// knows no refusals.)
 pub fn read_header(s: &[u8]) -> Result<Header, Refusal>
     ensures { (result ≡ header_of s.now) × HeadedIs s.now result }
 {
-    let Some(line) = line(s, 0) else {
-        return Err(Refusal::NoHeader);
-    };
+    let line = line(s, 0).ok_or(Refusal::NoHeader)?;
     if !within_limits(&line) {
         return Err(Refusal::BeyondLimits);
     }
+    let [nodes, genes, duplication, transfer, loss] = line;
     Ok(Header {
-        nodes: line[0] as usize,
-        genes: line[1] as usize,
-        duplication: line[2],
-        transfer: line[3],
-        loss: line[4],
+        nodes: nodes as usize,
+        genes: genes as usize,
+        duplication,
+        transfer,
+        loss,
     })
 }
 
@@ -58,7 +61,8 @@ pub fn read_header(s: &[u8]) -> Result<Header, Refusal>
 fn bears(line: &[u32; FIELDS], w: usize) -> bool
     ensures { result ≡ same (at line.now 0) w }
 {
-    line[0] as usize == w
+    let [number, ..] = *line;
+    number as usize == w
 }
 
 // Whether a gene line bears the number g, and ends in two zeros.
@@ -66,7 +70,8 @@ fn bears(line: &[u32; FIELDS], w: usize) -> bool
 fn bears_gene(line: &[u32; FIELDS], g: usize) -> bool
     ensures { result ≡ (same (at line.now 0) g && same (at line.now 3) 0 && same (at line.now 4) 0) }
 {
-    bears(line, g) && line[3] == 0 && line[4] == 0
+    let [.., fourth, fifth] = *line;
+    bears(line, g) && fourth == 0 && fifth == 0
 }
 
 // A text whose header was accepted. (Node lines and gene lines have a reader each: they differ in place, test and columns, and a reader of both would take
@@ -75,7 +80,7 @@ fn bears_gene(line: &[u32; FIELDS], g: usize) -> bool
 struct Headed<'a> {
     text: &'a [u8],
     header: Header,
-    ghost within: { WithinLimits header },
+    ghost within: { FewLines header },
 }
 
 impl Headed<'_> {
@@ -88,27 +93,21 @@ impl Headed<'_> {
     }
 
     // The numbers of node v's line, where it is well formed and in number.
+    #[tactic(auto, using(crate::proofs::Reading::node_unread, crate::proofs::Reading::node_read, crate::proofs::Reading::node_misnumbered))]
     fn node(&self, v: usize) -> Option<[u32; FIELDS]>
         requires { v ≤ self.now.header.nodes }
         ensures { result ≡ told (node_line self.now.text.now v) (line_no self.now.text.now v).line }
     {
-        let numbers = line(self.text, v)?;
-        if !bears(&numbers, v) {
-            return None;
-        }
-        Some(numbers)
+        line(self.text, v).filter(|numbers| bears(numbers, v))
     }
 
     // The numbers of gene g's line, where it is well formed and in number and ends in two zeros.
+    #[tactic(auto, using(crate::proofs::Reading::gene_unread, crate::proofs::Reading::gene_read, crate::proofs::Reading::gene_misnumbered))]
     fn gene(&self, g: usize) -> Option<[u32; FIELDS]>
         requires { g ≤ self.now.header.genes }
         ensures { result ≡ told (gene_line self.now.text.now self.now.header.nodes g) (line_no self.now.text.now (self.now.header.nodes + g)).line }
     {
-        let numbers = line(self.text, self.header.nodes + g)?;
-        if !bears_gene(&numbers, g) {
-            return None;
-        }
-        Some(numbers)
+        line(self.text, self.header.nodes + g).filter(|numbers| bears_gene(numbers, g))
     }
 
     // The node lines, where all are so.
@@ -116,10 +115,10 @@ impl Headed<'_> {
         ensures { NodesRead self.now.text.now self.now.header.nodes result }
     {
         let mut nodes = NodeColumns {
-            principal: [0; 128],
-            secondary: [0; 128],
-            stamp: [0; 128],
-            species: [0; 128],
+            principal: ZEROS,
+            secondary: ZEROS,
+            stamp: ZEROS,
+            species: ZEROS,
         };
         for v in 1..=self.header.nodes {
             let [_, principal, secondary, stamp, species] = self.node(v)?;
@@ -136,8 +135,8 @@ impl Headed<'_> {
         ensures { GenesRead self.now.text.now self.now.header.nodes self.now.header.genes result }
     {
         let mut genes = GeneColumns {
-            parent: [0; 128],
-            species: [0; 128],
+            parent: ZEROS,
+            species: ZEROS,
         };
         for g in 1..=self.header.genes {
             let [_, parent, species, ..] = self.gene(g)?;
@@ -150,7 +149,7 @@ impl Headed<'_> {
 
 // The lines after an accepted header.
 pub fn read_lines(s: &[u8], header: Header) -> Result<Lines, Refusal>
-    requires { WithinLimits header }
+    requires { FewLines header }
     ensures { LinesRead s.now header result }
 {
     let sheet = Headed { text: s, header };

@@ -3,7 +3,8 @@
 use Rattle.std.proofs.Common.{◌≡◌, sym, ap, ap₂, subst, ◌∙◌, Bool, true, false, ◌&&◌, not, List, [], ◌∷◌, ◌++◌, ℕ, ◌*◌, length, drop, arith}
 use mathlib.Core.List.{Memᴰ}
 use Rattle.finite.specs.Tests.{same}
-use Rattle.finite.proofs.Tests.{same_is, and_l, and_r, not_true, cond_yes, cond_no}
+use Rattle.std.proofs.lemmas.Bool.{not-true}
+use Rattle.finite.proofs.Tests.{same_is, and_l, and_r, cond_yes, cond_no}
 use Rattle.columns.specs.Fields.{same_bytes}
 use Rattle.columns.specs.Writing.{written}
 use Rattle.columns.proofs.Bytes.{same_eq}
@@ -75,7 +76,7 @@ module _ (k : ℕ) (X : Contents) (r : Row) where
       let j : ℕ = number x in
       let p₁ = and_r (same k j) _ p in
       let p₂ = and_r (not (same k 0)) _ p₁ in
-      by_refusal x (same_is k j (and_l (same k j) _ p)) (not_true _ (and_l (not (same k 0)) _ p₁))
+      by_refusal x (same_is k j (and_l (same k j) _ p)) (not-true _ (and_l (not (same k 0)) _ p₁))
       (same_eq _ _ (and_l (same_bytes r.report []) _ p₂)) (same_eq _ _ (and_r (same_bytes r.report []) _ p₂))
 
   from_agrees : (a : Result ℕ Refusal) → NoOthers X.nodes → agrees a ≡ true → Agrees k X r a

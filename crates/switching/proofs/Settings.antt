@@ -11,11 +11,11 @@ use Rattle.topology.specs.Components.{component, reticulation_count, index_of, r
 use Rattle.topology.specs.Lines.{network}
 use Rattle.topology.proofs.Above.{reticulation_node}
 use Rattle.topology.proofs.Components.{component_node, is_member}
-use Rattle.layout.specs.declared.lines.Lines.{Lines}
+use Rattle.layout.specs.declared.networks.PartedNetwork.{PartedNetwork}
 use Rattle.layout.specs.declared.parts.Parts.{Parts}
 use Rattle.layout.specs.declared.tree.Tree.{Tree}
 use Rattle.layout.specs.Lines.{nodes_in, network_of}
-use Rattle.layout.specs.inner.Parts.{top, index, Parted}
+use Rattle.layout.specs.inner.Parts.{top, index}
 use Rattle.layout.specs.inner.Parts as P
 use Rattle.layout.specs.inner.Tree.{Held}
 use Rattle.layout.proofs.Numbered.{secondary_in}
@@ -54,47 +54,48 @@ module _ {N : Network} {τ : Switching} (ok : Sound N) where
       done = λ q d u. by_eq q r (λ i. rw i (turned_here T.switching r b ∙ e)) (λ i. turned_other T.switching r b q i ∙ T.done q d (omega arith));
     }
 
--- as the code reads the lines
-module _ (l : Lines) {r : ℕ} (low : 1 ≤ r) (high : r ≤ l.header.nodes) where
-  read : (network_of l).secondary r ≡ at l.nodes.secondary r
-  unfolding network
-  read = secondary_in _ l.nodes r low high
+-- as the code reads node r: in the lines its secondary parent, and in the parts the top of a reticulation's component, how many reticulations that has, and the
+-- reticulation's index there
+module _ (w : PartedNetwork) {r : ℕ} (limits : (1 ≤ r) × (r ≤ w.lines.now.header.nodes)) where
+  abbrev N : Network
+  N = network_of w.lines.now
 
-  pub read_plain : at l.nodes.secondary r ≡ 0 → (network_of l).secondary r ≡ 0
+  abbrev p : Parts
+  p = w.parts.now
+
+  read : N.secondary r ≡ at w.lines.now.nodes.secondary r
+  unfolding network
+  read = secondary_in _ w.lines.now.nodes r limits.0 limits.1
+
+  pub read_plain : at w.lines.now.nodes.secondary r ≡ 0 → N.secondary r ≡ 0
   read_plain z = read ∙ z
 
-  pub read_reticulation : at l.nodes.secondary r ≢ 0 → Reticulation (network_of l) r
-  read_reticulation d z = d (sym read ∙ z)
+  module _ (some : at w.lines.now.nodes.secondary r ≢ 0) where
+    pub read_reticulation : Reticulation N r
+    read_reticulation z = some (sym read ∙ z)
 
--- as it reads the parts: the top of a reticulation's component, how many reticulations that has, and the reticulation's index there
-module _ (l : Lines) {p : Parts} (ok : Sound (network_of l)) (parted : Parted (network_of l) p) (r : ℕ) (d : Reticulation (network_of l) r) where
-  abbrev N : Network
-  N = network_of l
+    is_node : Node N r
+    is_node = reticulation_node N w.sound r read_reticulation
 
-  is_node : Node N r
-  is_node = reticulation_node N ok r d
+    top_is : top p r ≡ component N r
+    top_is = w.parted.tops r is_node
 
-  top_is : top p r ≡ component N r
-  top_is = parted.tops r is_node
+    count_is : P.reticulation_count p (top p r) ≡ reticulation_count N (component N r)
+    count_is = rw top_is (w.parted.counts _ (component_node N w.sound r is_node))
 
-  count_is : P.reticulation_count p (top p r) ≡ reticulation_count N (component N r)
-  count_is = rw top_is (parted.counts _ (component_node N ok r is_node))
+    index_is : index p r ≡ index_of N r
+    index_is = w.parted.indices r read_reticulation
 
-  index_is : index p r ≡ index_of N r
-  index_is = parted.indices r d
+    pub bit_fits : ((c : ℕ) → reticulation_count N c ≤ 8) → (index p r < P.reticulation_count p (top p r)) × (P.reticulation_count p (top p r) ≤ 8)
+    bit_fits small = (omega (arith, count_is, index_is, index_bit N w.sound r read_reticulation), omega (arith, count_is, small (component N r)))
 
-  pub bit_fits : ((c : ℕ) → reticulation_count N c ≤ 8) → (index p r < P.reticulation_count p (top p r)) × (P.reticulation_count p (top p r) ≤ 8)
-  bit_fits small = (omega (arith, count_is, index_is, index_bit N ok r d), omega (arith, count_is, small (component N r)))
+    pub bit_told : (settings : ℕ → ℕ) {b : ℕ} → b ≡ bit_of (settings (top p r)) (P.reticulation_count p (top p r)) (index p r) → same b 1 ≡ assembled N settings r
+    bit_told settings e = rw (e, count_is, index_is, top_is) (assembled_bit N w.sound r read_reticulation settings)
 
-  pub bit_told : (settings : ℕ → ℕ) {b : ℕ} → b ≡ bit_of (settings (top p r)) (P.reticulation_count p (top p r)) (index p r) → same b 1 ≡ assembled N settings r
-  bit_told settings e = rw (e, count_is, index_is, top_is) (assembled_bit N ok r d settings)
-
--- a setting is read inside its column
-pub top_low : (l : Lines) {p : Parts} {r : ℕ} → Sound (network_of l) → Parted (network_of l) p → 1 ≤ r → r ≤ l.header.nodes → at l.nodes.secondary r ≢ 0 → top p r < 128
-unfolding network nodes_in
-top_low l {p} {r} ok parted low high d =
-    let k = read_reticulation l low high d in
-    omega (arith, top_is l ok parted r k, component_node (network_of l) ok r (reticulation_node (network_of l) ok r k), l.within.few_nodes)
+    -- a setting is read inside its column
+    pub top_low : top p r < 128
+    unfolding network nodes_in
+    top_low = omega (arith, top_is, component_node N w.sound r is_node, w.lines.now.within.few_nodes)
 
 -- a trial of the search: all components but c on principal
 module _ (N : Network) (ok : Sound N) (settings : ℕ → ℕ) (c x : ℕ) (here : settings c ≡ x) (others : (a : ℕ) → a ≢ c → settings a ≡ 0) where

@@ -15,6 +15,7 @@ use Rattle.topology.proofs.Above.{parent_agree, parent_cases, reticulation_node,
 use Rattle.reconciliation.proofs.Agreement.{parent_same, secondary_same}
 use Rattle.topology.specs.Lines.{network}
 use Rattle.layout.specs.declared.lines.Lines.{Lines}
+use Rattle.layout.specs.declared.networks.PartedNetwork.{PartedNetwork}
 use Rattle.layout.specs.declared.tree.Tree.{Tree}
 use Rattle.layout.specs.Lines.{nodes_in, network_of}
 use Rattle.layout.proofs.Numbered.{principal_in, secondary_in}
@@ -145,7 +146,10 @@ module _ (N : Network) (ok : Sound N) (few : N.size ≤ 127) (r : ℕ) (d : Reti
         }
 
 -- a turn as the code makes it
-module _ (l : Lines) {r : ℕ} (b : Bool) (lr : 1 ≤ r) (ur : r ≤ l.header.nodes) (ok : Sound (network_of l)) (d : Reticulation (network_of l) r) where
+module _ (w : PartedNetwork) {r : ℕ} (b : Bool) (lr : 1 ≤ r) (ur : r ≤ w.lines.now.header.nodes) (d : Reticulation (network_of w.lines.now) r) where
+  abbrev l : Lines
+  l = w.lines.now
+
   abbrev N : Network
   N = network_of l
 
@@ -164,12 +168,12 @@ module _ (l : Lines) {r : ℕ} (b : Bool) (lr : 1 ≤ r) (ur : r ≤ l.header.no
   arc_moves {t} H =
       let σ = H.switching in
       let h = H.held in
-      let k : Node N (parent N (turned σ r b) r) = parent_node N ok low r d (turned σ r b) in
-      (omega (arith, low, h.ups r, parent_node N ok low r d σ), omega (arith, low, taken_is σ, k), rw (h.ups r) (arcs_some N ok low r d σ t h), rw (taken_is σ) (arcs_few N ok low r d σ t h _ k))
+      let k : Node N (parent N (turned σ r b) r) = parent_node N w.sound low r d (turned σ r b) in
+      (omega (arith, low, h.ups r, parent_node N w.sound low r d σ), omega (arith, low, taken_is σ, k), rw (h.ups r) (arcs_some N w.sound low r d σ t h), rw (taken_is σ) (arcs_few N w.sound low r d σ t h _ k))
 
   pub turns_none : (t : Tree) → lateral t r ≡ b → Turns N r b t t
-  turns_none t e = record { holds = λ σ h. turn_none N ok low r d σ t h b e }
+  turns_none t e = record { holds = λ σ h. turn_none N w.sound low r d σ t h b e }
 
   pub turns_moved : (t : Tree) → length t.up ≡ 128 → length t.lateral ≡ 128 → length t.arcs ≡ 128 → {q : ℕ} {a : List ℕ} → q ≡ taken → a ≡ arc_moved t.arcs (up t r) q
       → Turns N r b t (record { up = set t.up r q; lateral = set t.lateral r b; rank = t.rank; arcs = a })
-  turns_moved t x y z eq ea = rw (ea, eq) (record { holds = λ σ h. turn_moved N ok low r d σ t h b (up t r) taken (h.ups r) (taken_is σ) x y z })
+  turns_moved t x y z eq ea = rw (ea, eq) (record { holds = λ σ h. turn_moved N w.sound low r d σ t h b (up t r) taken (h.ups r) (taken_is σ) x y z })

@@ -5,7 +5,8 @@ use Rattle.std.proofs.Common.{◌≡◌, ◌≢◌, ℕ, ◌-◌, ◌≤◌, ◌
 use Rattle.finite.specs.Tests.{same, under}
 use Rattle.finite.specs.Range.{first}
 use Rattle.finite.proofs.Cases.{by_eq, by_less, by_order, clash}
-use Rattle.finite.proofs.Tests.{and_l, and_r, and_yes, and_no_l, and_no_r, is_same, same_is, not_same, is_under, under_is, not_under}
+use Rattle.std.proofs.lemmas.Bool.{and_from, and_left, and_right}
+use Rattle.finite.proofs.Tests.{and_l, and_r, is_same, same_is, not_same, is_under, under_is, not_under}
 use Rattle.finite.proofs.Every.{first_is, first_none, first_low, first_only, first_same}
 use Rattle.tables.specs.Children.{is_next, next, inside, inside_after}
 
@@ -49,13 +50,13 @@ abbrev pub lowest : ℕ → (ℕ → Bool) → ℕ → ℕ
 lowest n f w = first n (λ x. under w x && f x)
 
 pub lowest_yes : (n w : ℕ) (f : ℕ → Bool) → 1 ≤ w → w ≤ n → f w ≡ true → w ≡ lowest n f (w - 1)
-lowest_yes n w f l u t = sym (first_only n w (λ x. under (w - 1) x && f x) l u (and_yes (under (w - 1) w) (f w) (is_under (omega arith)) t)
-    (λ x a b. and_no_l (under (w - 1) x) (f x) (not_under (omega arith))))
+lowest_yes n w f l u t = sym (first_only n w (λ x. under (w - 1) x && f x) l u (and_from (under (w - 1) w) (f w) (is_under (omega arith)) t)
+    (λ x a b. and_left (under (w - 1) x) (f x) (not_under (omega arith))))
 
 pub lowest_no : (n w : ℕ) (f : ℕ → Bool) → 1 ≤ w → f w ≡ false → lowest n f w ≡ lowest n f (w - 1)
 lowest_no n w f l t = first_same n (λ x. under w x && f x) (λ x. under (w - 1) x && f x) (λ x a b. by_order x w
-    (λ h. and_no_l (under w x) (f x) (not_under (omega arith)) ∙ sym (and_no_l (under (w - 1) x) (f x) (not_under (omega arith))))
-    (λ h. rw h (and_no_r (under w w) (f w) t ∙ sym (and_no_r (under (w - 1) w) (f w) t)))
+    (λ h. and_left (under w x) (f x) (not_under (omega arith)) ∙ sym (and_left (under (w - 1) x) (f x) (not_under (omega arith))))
+    (λ h. rw h (and_right (under w w) (f w) t ∙ sym (and_right (under (w - 1) w) (f w) t)))
     (λ h. rw (is_under h, is_under {m = w - 1} {n = x} (omega arith))))
 
 module _ (n : ℕ) (f after : ℕ → ℕ) where
@@ -65,13 +66,13 @@ module _ (n : ℕ) (f after : ℕ → ℕ) where
   noted_here w p q ep eq l =
       let r = slot_is n after p w q eq l in
       let e = r.0 in
-      rw e (and_yes (under (after p) w) (same (f w) p) (is_under r.1) (is_same (sym ep)))
+      rw e (and_from (under (after p) w) (same (f w) p) (is_under r.1) (is_same (sym ep)))
 
   pub noted_not : (w p q : ℕ) → p ≡ f w → q ≡ inside_after n after p w → (v : ℕ) → v ≤ n → v ≢ q → is_next f (after v) v w ≡ false
   unfolding is_next
   noted_not w p q ep eq v u d = by_eq (f w) v
-      (λ e. and_no_l (under (after v) w) (same (f w) v) (not_under (slot_not n after p w q eq v u (sym (ep ∙ e)) d)))
-      (λ e. and_no_r (under (after v) w) (same (f w) v) (not_same e))
+      (λ e. and_left (under (after v) w) (same (f w) v) (not_under (slot_not n after p w q eq v u (sym (ep ∙ e)) d)))
+      (λ e. and_right (under (after v) w) (same (f w) v) (not_same e))
 
 -- what the next one is: in the range, above a, with the entry x; none between has that entry, and none above a has it where there is no next one
 module _ (n : ℕ) (l : ℕ → ℕ) (a x : ℕ) where
@@ -83,11 +84,11 @@ module _ (n : ℕ) (l : ℕ → ℕ) (a x : ℕ) where
 
   pub next_none : next n l a x ≡ 0 → (v : ℕ) → a < v → v ≤ n → l v ≢ x
   unfolding next is_next
-  next_none e v h u q = clash (and_yes (under a v) (same (l v) x) (is_under h) (is_same q)) (first_none n (is_next l a x) e v (omega arith) u)
+  next_none e v h u q = clash (and_from (under a v) (same (l v) x) (is_under h) (is_same q)) (first_none n (is_next l a x) e v (omega arith) u)
 
   pub next_low : (v : ℕ) → a < v → v < next n l a x → l v ≢ x
   unfolding next is_next
-  next_low v h u q = clash (and_yes (under a v) (same (l v) x) (is_under h) (is_same q)) (first_low n (is_next l a x) v (omega arith) u)
+  next_low v h u q = clash (and_from (under a v) (same (l v) x) (is_under h) (is_same q)) (first_low n (is_next l a x) v (omega arith) u)
 
 -- the next one by the parents of 1..n alone
 pub next_same : (n : ℕ) (f g : ℕ → ℕ) (a x : ℕ) → ((v : ℕ) → 1 ≤ v → v ≤ n → f v ≡ g v) → next n f a x ≡ next n g a x

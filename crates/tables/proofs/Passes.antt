@@ -12,7 +12,8 @@ use Rattle.finite.proofs.Cases.{by_eq, by_less}
 use Rattle.finite.proofs.Count.{count_start, count_turn}
 use Rattle.finite.proofs.Every.{first_same, first_nothing}
 use Rattle.finite.proofs.Tables.{length_filled, filled_in, filled_out, filled_zero, zeros_long, zeros_at}
-use Rattle.finite.proofs.Tests.{and_no_l, is_same, not_same, is_under, not_under}
+use Rattle.std.proofs.lemmas.Bool.{and_left}
+use Rattle.finite.proofs.Tests.{is_same, not_same, is_under, not_under}
 use Rattle.tables.specs.Children.{is_next, next, inside, inside_after, one_more}
 use Rattle.tables.proofs.Nexts.{inside_in, inside_out, inside_high, lowest, lowest_yes, lowest_no, noted_here, noted_not}
 
@@ -35,7 +36,7 @@ module _ (n : ℕ) (f after : ℕ → ℕ) (few : n ≤ 127) where
   pub noted_start : (out : List ℕ) → out ≡ zeros → Noted n f after n out
   noted_start out e = rw e (record {
     long = zeros_long;
-    within = λ v l u. zeros_at v ∙ sym (first_nothing n _ (λ x a b. and_no_l (under n x) (is_next f (after v) v x) (not_under b)));
+    within = λ v l u. zeros_at v ∙ sym (first_nothing n _ (λ x a b. and_left (under n x) (is_next f (after v) v x) (not_under b)));
     past = λ v l. zeros_at v;
   })
 

@@ -45,7 +45,7 @@ module _ (F : Family) (ok : Graded F) where
   unfolding choice
   chosen_among g v s e = (pick-sound (λ s. same_cost (total F (least F) g s) (least F g v)) (options F g v) s e).0
 
-  -- enough fuel is enough
+  -- what follows a chosen step, where the gene moves on, is by lower nodes alone
   module _ {A : Type 0} (e : Onward → A) (f k : ℕ → A) (g v : ℕ) (same : (w : ℕ) → height w < height v → f w ≡ k w) where
     same_on : (s : Step) → Among s (options F g v) → (o : Onward) → onward s ≡ o → unless_gone e f o ≡ unless_gone e k o
     unfolding unless_gone
@@ -63,17 +63,17 @@ module _ (F : Family) (ok : Graded F) where
   same_last f k g v e none q = refl
   same_last f k g v e (some s) q = same_on (λ o. o) f k g v e s (chosen_among g v s q) (onward s) refl
 
-  walk_fuel : (k r g v : ℕ) → height v < k → height v < r → walk_in F k g v ≡ walk_in F r g v
-  unfolding walk_in
-  walk_fuel zero r g v l u = absurd (omega arith)
-  walk_fuel (suc k) zero g v l u = absurd (omega arith)
-  walk_fuel (suc k) (suc r) g v l u = same_line (walk_in F k g) (walk_in F r g) g v (λ w h. walk_fuel k r g w (omega arith) (omega arith)) (choice F (least F) g v) refl
+  -- of what is computed along the moves of a gene, with fuel: enough fuel is enough, so it is given by itself at where the gene moves on to
+  module _ {A : Type 0} (climb : (k g v : ℕ) → A) (turn : (ℕ → A) → ℕ → Option Step → A)
+      (more : (k g v : ℕ) → climb (suc k) g v ≡ turn (climb k g) v (choice F (least F) g v))
+      (same : (f k : ℕ → A) (g v : ℕ) → ((w : ℕ) → height w < height v → f w ≡ k w) → (o : Option Step) → choice F (least F) g v ≡ o → turn f v o ≡ turn k v o) where
+    fuel : (k r g v : ℕ) → height v < k → height v < r → climb k g v ≡ climb r g v
+    fuel zero r g v l u = absurd (omega arith)
+    fuel (suc k) zero g v l u = absurd (omega arith)
+    fuel (suc k) (suc r) g v l u = more k g v ∙ same (climb k g) (climb r g) g v (λ w h. fuel k r g w (omega arith) (omega arith)) (choice F (least F) g v) refl ∙ sym (more r g v)
 
-  leave_fuel : (k r g v : ℕ) → height v < k → height v < r → leave_in F k g v ≡ leave_in F r g v
-  unfolding leave_in
-  leave_fuel zero r g v l u = absurd (omega arith)
-  leave_fuel (suc k) zero g v l u = absurd (omega arith)
-  leave_fuel (suc k) (suc r) g v l u = same_last (leave_in F k g) (leave_in F r g) g v (λ w h. leave_fuel k r g w (omega arith) (omega arith)) (choice F (least F) g v) refl
+    climb_eq : (g v : ℕ) → climb (suc nodes) g v ≡ turn (climb (suc nodes) g) v (choice F (least F) g v)
+    climb_eq g v = fuel (suc nodes) (suc (suc nodes)) g v (omega (arith, height_le v)) (omega (arith, height_le v)) ∙ more (suc nodes) g v
 
   -- the equations of a walk, as a loop takes them
   walk_suc : (k g v : ℕ) → walk_in F (suc k) g v ≡ line_then (walk_in F k g) v (choice F (least F) g v)
@@ -86,11 +86,11 @@ module _ (F : Family) (ok : Graded F) where
 
   pub walk_eq : (g v : ℕ) → walk F g v ≡ line_then (walk F g) v (choice F (least F) g v)
   unfolding walk
-  walk_eq g v = walk_fuel (suc nodes) (suc (suc nodes)) g v (omega (arith, height_le v)) (omega (arith, height_le v)) ∙ walk_suc (suc nodes) g v
+  walk_eq = climb_eq (walk_in F) line_then walk_suc same_line
 
   pub leave_eq : (g v : ℕ) → leave F g v ≡ last_of (leave F g) (choice F (least F) g v)
   unfolding leave
-  leave_eq g v = leave_fuel (suc nodes) (suc (suc nodes)) g v (omega (arith, height_le v)) (omega (arith, height_le v)) ∙ leave_suc (suc nodes) g v
+  leave_eq = climb_eq (leave_in F) (λ f v. last_of f) leave_suc same_last
 
   -- by the step taken
   module _ (g v : ℕ) (s : Step) (is : choice F (least F) g v ≡ some s) where

@@ -1,10 +1,10 @@
 -- Reading a line finds one just where the bytes are the fields of five numbers and a line feed: by induction on the fields that are left
 -- (`rest_is`), each of which is a number's columns or is malformed. Then the turns of the loops that read and write a line.
 -- Assumes nothing.
-use Rattle.std.proofs.Common.{ℕ, zero, suc, ◌+◌, ◌-◌, ◌*◌, ◌≤◌, ◌<◌, ◌≡◌, refl, sym, ap, ◌∙◌, subst, true, false, List, [], ◌∷◌, ◌++◌, append_assoc, append-nil, length, get_or, take, drop, set, length-append, length-set, take-take, drop-drop, get_or-take, get_or-drop, take-add, take_at, drop_at, drop-cons, eqb, lit<, add-zero, zero-add, suc-add, add-one, arith, eq-eqb, ne_eqb, eqb-true}
-use lib.ListN.{get_or-eq_default}
-use Rattle.std.proofs.lemmas.List.{take_all}
-use lib.Seq.{take-nil, set_at, append_snoc}
+use Rattle.std.proofs.Common.{ℕ, zero, suc, ◌+◌, ◌-◌, ◌*◌, ◌≤◌, ◌<◌, ◌≡◌, refl, sym, ap, ◌∙◌, subst, true, false, List, [], ◌∷◌, ◌++◌, append_assoc, append-nil, length, get_or, take, drop, set, length-append, length-set, take-take, drop-drop, get_or-take, get_or-drop, take-add, take_at, drop_at, drop-cons, eqb, lit<, add-zero, add-one, arith, eqb-true}
+use Rattle.std.proofs.lemmas.List.{take_all, take_more_set, drop-take}
+use Rattle.std.proofs.lemmas.Option.{none-some}
+use lib.Seq.{set_at, append_snoc}
 use borrow.Author.Tests.{eqb-false}
 use borrow.Rule.Slice.PartMut.{put_mid}
 use Rattle.finite.proofs.Tables.{replicate_at}
@@ -51,12 +51,7 @@ small_tail (n ∷ ns) s = record { small = λ i. s.small (suc i) }
 small_nil : Small []
 small_nil = record { small = λ i. lit< tt }
 
--- n bytes, then m bytes
-drop_take : (j m : ℕ) (l : List ℕ) → drop j (take (j + m) l) ≡ take m (drop j l)
-drop_take zero m l = rw zero-add
-drop_take (suc j) m [] = simp (suc-add, take-nil)
-drop_take (suc j) m (x ∷ xs) = rw suc-add (drop_take j m xs)
-
+-- six bytes, then m bytes
 more : (s p r : List ℕ) (at m : ℕ) → six s at ≡ p → take m (drop (at + 6) s) ≡ r → take (6 + m) (drop at s) ≡ p ++ r
 more s p r at m ep er = take-add 6 m (drop at s) ∙ rw (drop-drop, ep, er)
 
@@ -64,7 +59,7 @@ front : (s r : List ℕ) (at m n : ℕ) → take (6 + m) (drop at s) ≡ columns
 front s r at m n e = sym (take-take 6 (6 + m) (drop at s) (omega arith)) ∙ ap (λ (l : List ℕ). take 6 l) e ∙ take_at (columns n) r 6 (length_columns n)
 
 back : (s r : List ℕ) (at m n : ℕ) → take (6 + m) (drop at s) ≡ columns n ++ r → take m (drop (at + 6) s) ≡ r
-back s r at m n e = rw (← drop-drop 6 at s, ← drop_take 6 m (drop at s), e) (drop_at (columns n) r 6 (length_columns n))
+back s r at m n e = rw (← drop-drop 6 at s, ← drop-take 6 m (drop at s), e) (drop_at (columns n) r 6 (length_columns n))
 
 -- a byte that is not 0 stands within the text
 one_byte : (s : List ℕ) (q : ℕ) → get_or s q 0 ≡ 10 → take 1 (drop q s) ≡ 10 ∷ []
@@ -157,28 +152,14 @@ one_line ms ns sm sn e = one_fields field_count ms ns sm sn
     ∙ take_at (fields_of field_count ns) (10 ∷ []) (6 * field_count) (length_fields field_count ns))
 
 -- how a line ends after its last field
-ended : {c : Cursor} → Some c ≡ None → ⊥
-ended e = let z : ◌≡◌ {A = ℕ} 0 1 = cc in omega arith
-
-pub line_feed : (s : List ℕ) (at : ℕ) → get_or s at 0 ≡ 10 → Some (record { at = at + 1 }) ≡ (end_at s at []).end
-unfolding end_at
-line_feed s at e = rw (eq-eqb _ _ e)
-
-pub no_line_feed : (s : List ℕ) (at : ℕ) → (get_or s at 0 ≡ 10 → ⊥) → None ≡ (end_at s at []).end
-unfolding end_at malformed
-no_line_feed s at d = rw (ne_eqb _ _ d)
-
-pub past_end : (s : List ℕ) (at : ℕ) → length s ≤ at → None ≡ (end_at s at []).end
-past_end s at l = no_line_feed s at (λ q. omega (arith, get_or-eq_default s 0 {n = at} l))
-
 -- the numbers do not change how it ends
 end_after : (s : List ℕ) (at : ℕ) (ns : List ℕ) (c : Cursor) → (end_at s at []).end ≡ Some c → end_at s at ns ≡ record { line = ns; end = Some c }
 unfolding end_at malformed
-end_after s at ns c e = by_bool (eqb (get_or s at 0) 10) (λ t. rw t (ap (λ (d : Option Cursor). record { line = ns; end = d }) (rw t at e))) (λ t. absurd (ended (sym (rw t at e))))
+end_after s at ns c e = by_bool (eqb (get_or s at 0) 10) (λ t. rw t (ap (λ (d : Option Cursor). record { line = ns; end = d }) (rw t at e))) (λ t. absurd (none-some _ (rw t at e)))
 
 no_end : (s : List ℕ) (at : ℕ) (ns : List ℕ) → (end_at s at []).end ≡ None → end_at s at ns ≡ malformed
 unfolding end_at
-no_end s at ns e = by_bool (eqb (get_or s at 0) 10) (λ t. absurd (ended (rw t at e))) (λ t. rw t)
+no_end s at ns e = by_bool (eqb (get_or s at 0) 10) (λ t. absurd (none-some _ (sym (rw t at e)))) (λ t. rw t)
 
 -- the loop that reads, at the cursor q: the first i numbers of the line stand in front, the rest of the line follows
 pub record Read (s : List ℕ) (start q i : ℕ) (line : List ℕ) : Type 0 where
@@ -189,12 +170,6 @@ pub read_start : (s : List ℕ) (start : ℕ) (line : List ℕ) → length line 
 unfolding line_at
 read_start s start line l = record { long = l; rest_of = refl }
 
--- the first i numbers and the next
-take_more : (l : List ℕ) (i n : ℕ) → i < length l → take (i + 1) (set l i n) ≡ take i l ++ (n ∷ [])
-take_more [] i n h = absurd (omega arith)
-take_more (x ∷ l) zero n h = refl
-take_more (x ∷ l) (suc i) n h = let e : suc i + 1 ≡ suc (i + 1) = omega arith in rw e (ap (λ (r : List ℕ). x ∷ r) (take_more l i n (omega arith)))
-
 module _ {s line : List ℕ} {start q i : ℕ} (x : Read s start q i line) where
   pub read_turn : (n : ℕ) (r : Option (ℕ × Cursor)) (c : Cursor) → i < field_count → r ≡ field_at s q → r ≡ Some (n, c) → Read s start c.at (i + 1) (set line i n)
   unfolding rest_at
@@ -202,7 +177,7 @@ module _ {s line : List ℕ} {start q i : ℕ} (x : Read s start q i line) where
       let k : field_count - i ≡ suc (field_count - (i + 1)) = omega arith in
       record {
         long = length-set line i n ∙ x.long;
-        rest_of = x.rest_of ∙ rw (k, ← e, ec, take_more line i n (omega (arith, x.long)));
+        rest_of = x.rest_of ∙ rw (k, ← e, ec, take_more_set line i n (omega (arith, x.long)));
       }
 
   -- a field that is malformed
@@ -241,24 +216,10 @@ write_done d out line i a b room e =
     rw (e, k, length-append, n, drop-cons d (6 * field_count) 0 (omega arith), set_at (fields_of field_count line) _ (drop line_length d) 10 (6 * field_count) n)
     (sym (append_snoc (fields_of field_count line) 10 (drop line_length d)))
 
--- every line that is read has its number of fields, each of a number below 1,000,000, and a malformed one has zeros
-length_rest : (k : ℕ) (s : List ℕ) (at : ℕ) (ns : List ℕ) → length ns + k ≡ field_count → length (rest_at k s at ns).line ≡ field_count
-unfolding rest_at end_at malformed
-length_rest zero s at ns e = by_bool (eqb (get_or s at 0) 10) (λ t. rw t (omega arith)) (λ t. rw t)
-length_rest (suc k) s at ns e = go (field_at s at) (λ q n. length_rest k s q (ns ++ (n ∷ [])) (rw length-append (omega arith)))
-  where
-    go : (r : Option (ℕ × Cursor)) → ((q n : ℕ) → length (rest_at k s q (ns ++ (n ∷ []))).line ≡ field_count)
-        → length (and_then r (λ n c. rest_at k s c.at (ns ++ (n ∷ [])))).line ≡ field_count
-    go (Some (n, c)) ih = ih c.at n
-    go None ih = refl
-
-pub length_read : (s : List ℕ) (at : ℕ) → length (line_at s at).line ≡ field_count
-unfolding line_at
-length_read s at = length_rest field_count s at [] refl
-
+-- every field of a line that is read is of a number below 1,000,000, and a malformed line has zeros
 malformed_rest : (k : ℕ) (s : List ℕ) (at : ℕ) (ns : List ℕ) → (rest_at k s at ns).end ≡ None → rest_at k s at ns ≡ malformed
 unfolding rest_at end_at
-malformed_rest zero s at ns e = by_bool (eqb (get_or s at 0) 10) (λ t. absurd (ended (rw t at e))) (λ t. rw t)
+malformed_rest zero s at ns e = by_bool (eqb (get_or s at 0) 10) (λ t. absurd (none-some _ (sym (rw t at e)))) (λ t. rw t)
 malformed_rest (suc k) s at ns e = go (field_at s at) (λ q n. malformed_rest k s q (ns ++ (n ∷ []))) e
   where
     go : (r : Option (ℕ × Cursor)) → ((q n : ℕ) → (rest_at k s q (ns ++ (n ∷ []))).end ≡ None → rest_at k s q (ns ++ (n ∷ [])) ≡ malformed)

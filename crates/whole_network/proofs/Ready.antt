@@ -1,22 +1,23 @@
 -- An accepted sheet is ready to be filled once its arcs are laid out: they are what the family says, and their order is a schedule.
 -- Assumes nothing.
 use Rattle.std.proofs.Common.{◌≡◌, ◌∙◌, List, ℕ, ◌*◌, ◌≤◌, length, arith, mul-le-mul_right}
-use Rattle.topology.specs.Networks.{Sound}
 use Rattle.layout.specs.declared.lines.Lines.{Lines}
 use Rattle.layout.specs.declared.genes.Genes.{Genes}
-use Rattle.layout.specs.Lines.{network_of, nodes_of, nodes_in}
+use Rattle.layout.specs.Lines.{nodes_in}
+use Rattle.layout.specs.Headers.{WithinLimits}
 use Rattle.layout.specs.inner.Genes.{gene_tree}
 use Rattle.layout.proofs.Numbered.{species_in}
 use Rattle.histories.specs.Histories.{least_over}
 use Rattle.histories.specs.Words.{cost_of}
+use Rattle.histories.specs.inner.Grades.{Prepared}
 use Rattle.histories.specs.inner.Rows.{row, Rows, Kept}
 use Rattle.histories.specs.Families.{family_of}
 use Rattle.histories.specs.inner.Promise.{WholeNetwork}
 use Rattle.histories.proofs.Accepted.{out_at, prepared}
 use Rattle.histories.proofs.Promise.{promise}
-use Rattle.arcs.specs.inner.Arcs.{leaving_in, order, Laid}
-use Rattle.whole_network.specs.declared.Source.{Source}
-use Rattle.whole_network.specs.inner.Stages.{family_in, AcceptedIn, header, family, Filling}
+use Rattle.arcs.specs.inner.Arcs.{leaving_in, order}
+use Rattle.whole_network.specs.declared.source.Source.{Source}
+use Rattle.whole_network.specs.inner.Stages.{family_in, AcceptedIn, header, family}
 
 module _ (lines : Lines) (genes : Genes) (ok : AcceptedIn lines genes) where
   abbrev n : ℕ
@@ -25,8 +26,9 @@ module _ (lines : Lines) (genes : Genes) (ok : AcceptedIn lines genes) where
   abbrev m : ℕ
   m = lines.header.genes
 
-  pub sound : Sound (network_of lines)
-  sound = ok.sound
+  limits : WithinLimits lines.header
+  unfolding nodes_in gene_tree
+  limits = ok.limits
 
   pub kept_promise : {s u : List ℕ} {r : ℕ} → m * n ≤ length s → Rows (family_in lines genes) u 0 → Kept (family_in lines genes) s u → cost_of r ≡ least_over n (row n u 1)
       → WholeNetwork (family_in lines genes) s u r
@@ -35,12 +37,16 @@ module _ (lines : Lines) (genes : Genes) (ok : AcceptedIn lines genes) where
 
   -- gene 1's row lies within
   pub row_within : {s u : List ℕ} → m * n ≤ length s → Kept (family_in lines genes) s u → n ≤ length u
-  row_within l k = omega (arith, k.long, mul-le-mul_right n lines.within.some_gene)
+  row_within l k = omega (arith, k.long, mul-le-mul_right n limits.some_gene)
 
-module _ (f : Source) (ok : AcceptedIn f.lines.now f.genes.now) (T : Laid (nodes_of f.lines.now) f.arcs) where
-  outs : (v : ℕ) → 1 ≤ v → v ≤ (header f).nodes → (family f).out v ≡ leaving_in f.lines.now.nodes f.arcs v
+-- what the table of a source is filled by
+module _ (f : Source) where
+  pub within : WithinLimits (header f)
+  within = limits f.lines.now f.genes.now f.accepted
+
+  pub ready : Prepared (family f) (order f.arcs)
+  ready = prepared _ _ _ _ f.accepted (order f.arcs) f.laid.ordered.places
+
+  pub out_is : (v : ℕ) → 1 ≤ v → v ≤ (header f).nodes → (family f).out v ≡ leaving_in f.lines.now.nodes f.arcs v
   unfolding nodes_in
-  outs v l u = out_at _ _ _ _ v l u ∙ rw (T.firsts v l u, T.seconds v l u, T.others v l u, species_in (header f).nodes f.lines.now.nodes v l u)
-
-  pub ready : {s : List ℕ} → (header f).genes * (header f).nodes ≤ length s → Filling f s
-  ready l = record { ready = record { prepared = prepared _ _ _ _ ok (order f.arcs) T.ordered; outs = outs }; room = l }
+  out_is v l u = out_at _ _ _ _ v l u ∙ rw (f.laid.firsts v l u, f.laid.seconds v l u, f.laid.others v l u, species_in (header f).nodes f.lines.now.nodes v l u)

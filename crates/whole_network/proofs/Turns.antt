@@ -1,6 +1,7 @@
 -- The turns of filling the table: at the next node of the order the words that the clauses read are small, and the word of the clauses is the least cost.
 -- Assumes nothing.
-use Rattle.std.proofs.Common.{◌≡◌, ◌≢◌, ◌∙◌, refl, List, ℕ, ◌+◌, ◌-◌, ◌*◌, ◌≤◌, ◌<◌, length, drop, length-drop, arith, mul-le-mul}
+use Rattle.std.proofs.Common.{◌≡◌, ◌≢◌, ◌∙◌, refl, List, ℕ, ◌+◌, ◌-◌, ◌*◌, ◌≤◌, ◌<◌, length, take, drop, length-drop, arith, mul-le-mul}
+use Rattle.std.proofs.lemmas.List.{take_rest}
 use Rattle.std.proofs.Math.ListN.{set}
 use Rattle.finite.proofs.Cases.{by_less}
 use Rattle.finite.specs.Tables.{at}
@@ -18,9 +19,11 @@ use Rattle.histories.proofs.Filling.{turn_low, turn_high, stepping_least, own_ce
 use Rattle.arcs.specs.inner.Arcs.{order, leaving_in}
 use Rattle.cell_costs.proofs.Sums.{leads_both}
 use Rattle.cell_costs.specs.inner.Costs.{tip_cost, inner_cost}
+use Rattle.whole_network.specs.declared.Kind.TheVariants.{Tip, Pair}
 use Rattle.whole_network.specs.declared.Row.{Row}
-use Rattle.whole_network.specs.declared.Source.{Source}
-use Rattle.whole_network.specs.inner.Stages.{header, family, Ready, RowsIn, PartlyIn, KeptIn, Next}
+use Rattle.whole_network.specs.declared.source.Source.{Source}
+use Rattle.whole_network.specs.inner.Stages.{header, family, RowsIn, PartlyIn, KeptIn, Next}
+use Rattle.whole_network.proofs.Ready.{ready, out_is}
 
 -- a leaf gene's step and an inner gene's are those of the clauses
 tip_step : (d t l : ℕ) (W : ℕ → ℕ → Cost) (g k v : ℕ) (o : Out) → tip_cost t l k (W g) o ≡ stepping d t l W g (tip k) v o
@@ -48,13 +51,17 @@ module _ {f : Source} {s : List ℕ} {r : Row} {i : ℕ} (T : Next f s r i) wher
   abbrev out : Out
   out = leaving_in f.lines.now.nodes f.arcs (order f.arcs i)
 
+  -- what is lent of the words, from a row's start on
+  abbrev lent : ℕ → List ℕ
+  lent k = take (length s - k) (drop k s)
+
   pub node_low : 1 ≤ order f.arcs i
   unfolding family_of nodes_in gene_tree
-  node_low = turn_low T.filling.ready.prepared T.filling.room T.row.low T.row.high T.part T.low T.high refl
+  node_low = turn_low (ready f) T.room T.row.low T.row.high T.part T.low T.high refl
 
   node_high : order f.arcs i ≤ (header f).nodes
   unfolding family_of nodes_in gene_tree
-  node_high = turn_high T.filling.ready.prepared T.filling.room T.row.low T.row.high T.part T.low T.high refl
+  node_high = turn_high (ready f) T.room T.row.low T.row.high T.part T.low T.high refl
 
   pub node_few : order f.arcs i ≤ 127
   node_few = omega (arith, node_high, f.lines.now.within.few_nodes)
@@ -64,65 +71,70 @@ module _ {f : Source} {s : List ℕ} {r : Row} {i : ℕ} (T : Next f s r i) wher
   at_cell = omega (arith, T.row.starts)
 
   pub word_inside : r.start + (order f.arcs i - 1) < length s
-  word_inside = omega (arith, at_cell, T.filling.room, cell_in n (header f).genes g v T.row.low T.row.high node_low node_high)
+  word_inside = omega (arith, at_cell, T.room, cell_in n (header f).genes g v T.row.low T.row.high node_low node_high)
 
   outs : F.out v ≡ out
-  outs = T.filling.ready.outs v node_low node_high
+  outs = out_is f v node_low node_high
 
   -- its own row may be read where the arcs out lead
-  pub own_ends : Leads (Cell (drop r.start s)) (leaving_in f.lines.now.nodes f.arcs (order f.arcs i))
+  pub own_ends : Leads (Cell (lent r.start)) (leaving_in f.lines.now.nodes f.arcs (order f.arcs i))
   unfolding family_of nodes_in gene_tree
-  own_ends = rw outs at (own_cells T.filling.ready.prepared T.filling.room T.row.low T.row.high T.part T.low T.high refl r.start T.row.starts)
+  own_ends = rw (take_rest s r.start) (rw outs at (own_cells (ready f) T.room T.row.low T.row.high T.part T.low T.high refl r.start T.row.starts))
 
   -- a word that stands for the least cost is put in its place
   pub word_put : (w : ℕ) → cost_of w ≡ least (family f) r.gene (order f.arcs i)
       → PartlyIn f (set s (r.start + (order f.arcs i - 1)) w) r.gene (i - 1) × KeptIn f s (set s (r.start + (order f.arcs i - 1)) w)
   unfolding family_of nodes_in gene_tree
   word_put w e = rw at_cell (
-    partly_more T.filling.ready.prepared T.filling.room T.row.low T.row.high T.part T.low T.high refl w e,
-    kept_more T.filling.ready.prepared T.filling.room T.row.low T.row.high T.part T.low T.high refl s w (kept_none F s),
+    partly_more (ready f) T.room T.row.low T.row.high T.part T.low T.high refl w e,
+    kept_more (ready f) T.room T.row.low T.row.high T.part T.low T.high refl s w (kept_none F s),
   )
 
   step_least : stepping (header f).duplication (header f).transfer (header f).loss (row n s) g (F.gene g) v (F.out v) ≡ least F g v
   unfolding family_of nodes_in gene_tree
-  step_least = stepping_least T.filling.ready.prepared T.filling.room T.row.low T.row.high T.part T.low T.high refl
+  step_least = stepping_least (ready f) T.room T.row.low T.row.high T.part T.low T.high refl
 
   -- of a leaf gene
-  module _ (k : ℕ) (kind : (left f.genes.now r.gene ≡ 0) × (k ≡ at f.lines.now.genes.species r.gene)) where
+  module _ (k : ℕ) (is : r.kind ≡ Tip k) where
+    tip_kind : (left f.genes.now r.gene ≡ 0) × (k ≡ at f.lines.now.genes.species r.gene)
+    tip_kind = rw is at T.row.kind
+
     gene_is : F.gene g ≡ tip k
     unfolding gene_tree
-    gene_is = gene_tip _ _ _ _ g kind.0 ∙ rw (gene_species_in (header f).genes f.lines.now.genes g T.row.low T.row.high, kind.1)
+    gene_is = gene_tip _ _ _ _ g tip_kind.0 ∙ rw (gene_species_in (header f).genes f.lines.now.genes g T.row.low T.row.high, tip_kind.1)
 
-    pub tip_least : tip_cost (header f).transfer (header f).loss k (cost_at (drop r.start s)) (leaving_in f.lines.now.nodes f.arcs (order f.arcs i)) ≡ least (family f) r.gene (order f.arcs i)
-    tip_least = rw (row_costs n s g r.start T.row.starts, ← outs) (tip_step (header f).duplication (header f).transfer (header f).loss (row n s) g k v (F.out v) ∙ rw gene_is at step_least)
+    pub tip_least : tip_cost (header f).transfer (header f).loss k (cost_at (lent r.start)) (leaving_in f.lines.now.nodes f.arcs (order f.arcs i)) ≡ least (family f) r.gene (order f.arcs i)
+    tip_least = rw (take_rest s r.start, row_costs n s g r.start T.row.starts, ← outs) (tip_step (header f).duplication (header f).transfer (header f).loss (row n s) g k v (F.out v) ∙ rw gene_is at step_least)
 
   -- of an inner gene whose children's rows begin at a and b
-  module _ (a b : ℕ)
-      (kind : (left f.genes.now r.gene ≢ 0) × (a ≡ (left f.genes.now r.gene - 1) * (header f).nodes) × (b ≡ (right f.genes.now r.gene - 1) * (header f).nodes)) where
+  module _ (a b : ℕ) (is : r.kind ≡ Pair a b) where
+    pair_kind : (left f.genes.now r.gene ≢ 0) × (a ≡ (left f.genes.now r.gene - 1) * (header f).nodes) × (b ≡ (right f.genes.now r.gene - 1) * (header f).nodes)
+    pair_kind = rw is at T.row.kind
+
     pair_is : F.gene g ≡ pair (left f.genes.now g) (right f.genes.now g)
     unfolding gene_tree
-    pair_is = gene_pair _ _ _ _ g kind.0
+    pair_is = gene_pair _ _ _ _ g pair_kind.0
 
     -- the rows of its children may be read there and at the node itself
-    left_row : Cell (drop a s) v × Leads (Cell (drop a s)) (F.out v)
+    left_row : Cell (lent a) v × Leads (Cell (lent a)) (F.out v)
     unfolding family_of nodes_in gene_tree
-    left_row = child_cells T.filling.ready.prepared T.filling.room T.row.low T.row.high T.part T.low T.high refl (left f.genes.now g) a kind.1
-        (T.filling.ready.prepared.graded.left_more g _ _ pair_is) (T.filling.ready.prepared.graded.left_in g _ _ pair_is)
+    left_row = rw (take_rest s a) (child_cells (ready f) T.room T.row.low T.row.high T.part T.low T.high refl (left f.genes.now g) a pair_kind.1
+        ((ready f).graded.left_more g _ _ pair_is) ((ready f).graded.left_in g _ _ pair_is))
 
-    right_row : Cell (drop b s) v × Leads (Cell (drop b s)) (F.out v)
+    right_row : Cell (lent b) v × Leads (Cell (lent b)) (F.out v)
     unfolding family_of nodes_in gene_tree
-    right_row = child_cells T.filling.ready.prepared T.filling.room T.row.low T.row.high T.part T.low T.high refl (right f.genes.now g) b kind.2
-        (T.filling.ready.prepared.graded.right_more g _ _ pair_is) (T.filling.ready.prepared.graded.right_in g _ _ pair_is)
+    right_row = rw (take_rest s b) (child_cells (ready f) T.room T.row.low T.row.high T.part T.low T.high refl (right f.genes.now g) b pair_kind.2
+        ((ready f).graded.right_more g _ _ pair_is) ((ready f).graded.right_in g _ _ pair_is))
 
     abbrev cells : ℕ → Type 0
-    cells x = Cell (drop a s) x × Cell (drop b s) x
+    cells x = Cell (lent a) x × Cell (lent b) x
 
     pub child_rows : cells (order f.arcs i) × Leads cells (leaving_in f.lines.now.nodes f.arcs (order f.arcs i))
     child_rows = ((left_row.0, right_row.0), rw outs at (leads_both _ _ _ left_row.1 right_row.1))
 
     -- a row that begins past the words would hold no word
-    begins : (k : ℕ) → Cell (drop k s) v → k ≤ length s
-    begins k c = by_less (length s) k (λ l. absurd (omega (arith, c.inside, length-drop k s))) (λ l. l)
+    begins : (k : ℕ) → Cell (lent k) v → k ≤ length s
+    begins k c = by_less (length s) k (λ l. absurd (omega (arith, (rw (take_rest s k) at c).inside, length-drop k s))) (λ l. l)
 
     pub left_starts : a ≤ length s
     left_starts = begins a left_row.0
@@ -130,19 +142,19 @@ module _ {f : Source} {s : List ℕ} {r : Row} {i : ℕ} (T : Next f s r i) wher
     pub right_starts : b ≤ length s
     right_starts = begins b right_row.0
 
-    pub inner_least : inner_cost (header f).duplication (header f).transfer (header f).loss (cost_at (drop a s)) (cost_at (drop b s)) (cost_at (drop r.start s)) (order f.arcs i) (leaving_in f.lines.now.nodes f.arcs (order f.arcs i))
+    pub inner_least : inner_cost (header f).duplication (header f).transfer (header f).loss (cost_at (lent a)) (cost_at (lent b)) (cost_at (lent r.start)) (order f.arcs i) (leaving_in f.lines.now.nodes f.arcs (order f.arcs i))
         ≡ least (family f) r.gene (order f.arcs i)
-    inner_least = rw (row_costs n s g r.start T.row.starts, row_costs n s (left f.genes.now g) a kind.1, row_costs n s (right f.genes.now g) b kind.2, ← outs)
+    inner_least = rw (take_rest s r.start, take_rest s a, take_rest s b, row_costs n s g r.start T.row.starts, row_costs n s (left f.genes.now g) a pair_kind.1, row_costs n s (right f.genes.now g) b pair_kind.2, ← outs)
         (inner_step (header f).duplication (header f).transfer (header f).loss (row n s) g (left f.genes.now g) (right f.genes.now g) v (F.out v) ∙ rw pair_is at step_least)
 
 -- a row begins, and is done
-module _ {f : Source} {s : List ℕ} (S : Ready f) where
+module _ (f : Source) {s : List ℕ} where
   pub row_begun : {g : ℕ} → RowsIn f s g → PartlyIn f s g (header f).nodes
   unfolding family_of nodes_in
-  row_begun {g} R = partly_start S.prepared s g R
+  row_begun {g} R = partly_start (ready f) s g R
 
   pub row_done : {g i : ℕ} → i ≤ 0 → PartlyIn f s g i → RowsIn f s (g - 1)
-  row_done {g} {i} l p = let e : i ≡ 0 = omega arith in partly_end S.prepared s g (rw e at p)
+  row_done {g} {i} l p = let e : i ≡ 0 = omega arith in partly_end (ready f) s g (rw e at p)
 
 -- so is the table, from no row on
 pub rows_begun : (f : Source) (s : List ℕ) → RowsIn f s (header f).genes
@@ -150,7 +162,7 @@ unfolding family_of gene_tree
 rows_begun f s = rows_none (family f) s
 
 -- the places where rows begin are low, and an inner gene's children are genes
-module _ {f : Source} (S : Ready f) where
+module _ (f : Source) where
   pub row_low : (g : ℕ) → g ≤ (header f).genes → (g - 1) * (header f).nodes ≤ 16129
   row_low g u = omega (arith, f.lines.now.within.few_nodes, f.lines.now.within.few_genes, mul-le-mul {n₂ = 127} {m₂ = 127} (less g u) f.lines.now.within.few_nodes)
     where
@@ -164,11 +176,11 @@ module _ {f : Source} (S : Ready f) where
 
     pub left_high : left f.genes.now g ≤ (header f).genes
     unfolding family_of gene_tree
-    left_high = S.prepared.graded.left_in g _ _ inner_pair
+    left_high = (ready f).graded.left_in g _ _ inner_pair
 
     pub right_low : 1 ≤ right f.genes.now g
-    right_low = omega (arith, S.prepared.graded.right_more g _ _ inner_pair)
+    right_low = omega (arith, (ready f).graded.right_more g _ _ inner_pair)
 
     pub right_high : right f.genes.now g ≤ (header f).genes
     unfolding family_of gene_tree
-    right_high = S.prepared.graded.right_in g _ _ inner_pair
+    right_high = (ready f).graded.right_in g _ _ inner_pair

@@ -1,1 +1,3 @@
+pub mod Families
+pub mod Props
 pub mod Stages

@@ -6,12 +6,16 @@ ghost use Rattle.histories.specs.Histories.{least};
 ghost use Rattle.histories.specs.inner.Promise.{WholeNetwork};
 ghost use Rattle.cell_costs.specs.inner.Costs.{cost_in};
 ghost use Rattle.arcs.specs.inner.Arcs.{order};
-ghost use Rattle.whole_network.specs.inner.Stages.{family_in, AcceptedIn, header, family, Ready, Filling, RowOf, RowsIn, PartlyIn, KeptIn, Next};
+ghost use Rattle.whole_network.specs.inner.Families.{family_in, AcceptedIn};
+ghost use Rattle.whole_network.specs.inner.Stages.{header, family, HasRoom, RowOf, RowsIn, PartlyIn, KeptIn, Next};
 
-use arcs::Arcs;
+mod source;
+
 use cell_costs::Children;
 use layout::genes::Genes;
 use layout::lines::Lines;
+use layout::networks::SoundNetwork;
+use source::Source;
 
 // A leaf gene of a species, or an inner gene, by where its children's rows begin.
 #[derive(Clone, Copy)]
@@ -29,18 +33,11 @@ struct Row {
     kind: Kind,
 }
 
-// What the table is filled from.
-#[derive(Clone, Copy)]
-struct Source<'a> {
-    lines: &'a Lines,
-    genes: &'a Genes,
-    arcs: Arcs,
-}
-
 impl Source<'_> {
     // The row of gene g. What depends on the gene alone is read here, once for all nodes.
+    #[tactic(auto, using(crate::proofs::Turns::row_low, crate::proofs::Turns::left_high, crate::proofs::Turns::right_low, crate::proofs::Turns::right_high))]
     fn row(&self, g: usize) -> Row
-        requires { Ready self.now × (1 ≤ g) × (g ≤ (header self.now).genes) }
+        requires { (1 ≤ g) × (g ≤ (header self.now).genes) }
         ensures { RowOf self.now result × (result.gene ≡ g) }
     {
         let n = self.lines.header.nodes;
@@ -61,6 +58,7 @@ impl Source<'_> {
     }
 
     // The least cost of a row's gene at place i of the order of the nodes.
+    #[tactic(auto, using(crate::proofs::Turns::node_few))]
     fn cost(&self, row: Row, i: usize, scratch: &[u32]) -> usize
         requires { Next self.now scratch.now row i }
         ensures { cost_in result ≡ least (family self.now) row.gene (order self.now.arcs i) }
@@ -93,7 +91,7 @@ impl Source<'_> {
 
     // The row of gene g, from the last node of the order, for arcs out lead to later ones.
     fn fill_row(&self, g: usize, scratch: &mut [u32])
-        requires { Filling self.now scratch.old × (1 ≤ g) × (g ≤ (header self.now).genes) × RowsIn self.now scratch.old g }
+        requires { HasRoom self.now scratch.old × (1 ≤ g) × (g ≤ (header self.now).genes) × RowsIn self.now scratch.old g }
         ensures rows_in { RowsIn self.now scratch.new (g - 1) }
         ensures kept_in { KeptIn self.now scratch.old scratch.new }
     {
@@ -105,7 +103,7 @@ impl Source<'_> {
 
     // All rows: genes from the last to the first, for children have higher numbers.
     fn fill_rows(&self, scratch: &mut [u32])
-        requires { Filling self.now scratch.old }
+        requires { HasRoom self.now scratch.old }
         ensures rows_in { RowsIn self.now scratch.new 0 }
         ensures kept_in { KeptIn self.now scratch.old scratch.new }
     {
@@ -123,7 +121,7 @@ pub fn fill(lines: &Lines, genes: &Genes, scratch: &mut [u32]) -> u32
     let source = Source {
         lines,
         genes,
-        arcs: arcs::lay(lines),
+        arcs: arcs::lay(SoundNetwork { lines }),
     };
     source.fill_rows(scratch);
     cell_costs::least_start(lines.header.nodes, scratch)

@@ -5,7 +5,8 @@ use Rattle.std.proofs.Common.{ℕ, ◌+◌, ◌≤◌, ◌<◌, ◌≡◌, false
 use Rattle.finite.specs.Tables.{at, within}
 use Rattle.finite.specs.Refusals.{verdict}
 use Rattle.finite.proofs.Tables.{within_same}
-use Rattle.finite.proofs.Tests.{same_is, and_r, not_no}
+use Rattle.std.proofs.lemmas.Bool.{not_from_true}
+use Rattle.finite.proofs.Tests.{same_is, and_r}
 use Rattle.finite.proofs.Every.{every_at}
 use Rattle.text_lines.specs.Lines.{field_count}
 use Rattle.topology.specs.Lines.{GeneLines}
@@ -54,7 +55,7 @@ module _ {s : List ℕ} {K : GeneLines} (S : WithoutGenes s) (G : Writable K) wh
   unfolding refusal4
   passes_4 =
       let l : WithinLimits (header_by (header_fields (header_in s) K.count)) = omega (arith, within_limits s S.limits, G.some_gene, G.few_genes) in
-      not_no _ (sym (is_limits (line_no sheet 0).line (subst (λ (x : Header). WithinLimits x) (sym header_is) l)))
+      not_from_true _ (sym (is_limits (line_no sheet 0).line (subst (λ (x : Header). WithinLimits x) (sym header_is) l)))
 
   formed : WellFormed sheet (nodes s) K.count
   unfolding node_line cell

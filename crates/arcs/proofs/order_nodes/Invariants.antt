@@ -5,4 +5,4 @@ use Rattle.arcs.proofs.Walks.{Come}
 use Rattle.arcs.proofs.order_nodes.Given as goal
 
 abbrev pub invariant-loop-v : goal.invariant-loop-v
-invariant-loop-v l = Come (network_of l.lines) l.v l.walk
+invariant-loop-v l = Come (network_of l.network.lines.now) l.v l.walk

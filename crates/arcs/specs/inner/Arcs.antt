@@ -2,6 +2,7 @@
 -- Assumes nothing.
 use Rattle.std.specs.Prelude.{◌≡◌, ℕ, ◌≤◌}
 use Rattle.finite.specs.Tables.{at}
+use Rattle.topology.specs.Networks.{Network, Node}
 use Rattle.topology.specs.Lines.{NodeLines, network}
 use Rattle.layout.specs.declared.lines.NodeColumns.{NodeColumns}
 use Rattle.histories.specs.Histories.{Out as Leaving, leaf, one, two, mixed}
@@ -34,9 +35,14 @@ leaving (Mixed x z) = mixed x z
 abbrev pub leaving_in : NodeColumns → Arcs → ℕ → Leaving
 leaving_in l a v = out_by (first a v) (second a v) (other a v) (at l.species v)
 
+-- a node comes after its parents, and what is no node has place 0 (so that an order has its places in one way: Props)
+pub record Ordered (N : Network) (order : ℕ → ℕ) : Type 0 where
+  pub places : Order N order
+  pub elsewhere : (v : ℕ) → (Node N v → ⊥) → places.place v ≡ 0
+
 -- the columns have the children of each node, and the nodes in order
 pub record Laid (L : NodeLines) (a : Arcs) : Type 0 where
   pub firsts : (v : ℕ) → 1 ≤ v → v ≤ L.size → first a v ≡ first_child L v
   pub seconds : (v : ℕ) → 1 ≤ v → v ≤ L.size → second a v ≡ second_child L v
   pub others : (v : ℕ) → 1 ≤ v → v ≤ L.size → other a v ≡ other_child L v
-  pub ordered : Order (network L) (order a)
+  pub ordered : Ordered (network L) (order a)

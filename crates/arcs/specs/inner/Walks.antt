@@ -20,6 +20,7 @@ pub record Walked (N : Network) (w : Walk) : Type 0 where
   pub standing : w.standing ≡ count N.size (λ v. not (same (place w v) 0))
   pub visits : (v : ℕ) → Node N v → place w v ≢ 0 → order w (place w v) ≡ v
   pub high : (v : ℕ) → place w v ≤ w.standing
+  pub elsewhere : (v : ℕ) → (Node N v → ⊥) → place w v ≡ 0
   pub node : (i : ℕ) → 1 ≤ i → i ≤ w.standing → Node N (order w i)
   pub placed : (i : ℕ) → 1 ≤ i → i ≤ w.standing → place w (order w i) ≡ i
   pub principal : (v : ℕ) → Node N v → place w v ≢ 0 → N.principal v ≢ 0 → (place w (N.principal v) ≢ 0) × (place w (N.principal v) < place w v)

@@ -16,8 +16,8 @@ returns-in-One c = rw c.in-One.is (lesser_of _ _ _ c.min.ensures (c.both-here.en
 
 pub returns-in-Two : goal.returns-in-Two
 unfolding inner_cost parting moving
-returns-in-Two c = rw c.in-Two.is (lesser_of _ _ _ c.min-in-Two-2.ensures (lesser_of _ _ _ c.min-in-Two.ensures c.both-here.ensures c.parted.ensures) c.lost.ensures)
+returns-in-Two c = rw c.in-Two.is (lesser_of _ _ _ c.min-in-Two-2.ensures (lesser_of _ _ _ c.min-in-Two.ensures c.both-here.ensures c.parted.ensures) c.onward.ensures)
 
 pub returns-in-Mixed : goal.returns-in-Mixed
 unfolding inner_cost parting moving transferring
-returns-in-Mixed c = rw c.in-Mixed.is (lesser_of _ _ _ c.min-in-Mixed-2.ensures (lesser_of _ _ _ c.min-in-Mixed.ensures c.both-here.ensures c.transferred.ensures) c.carried.ensures)
+returns-in-Mixed c = rw c.in-Mixed.is (lesser_of _ _ _ c.min-in-Mixed-2.ensures (lesser_of _ _ _ c.min-in-Mixed.ensures c.both-here.ensures c.transferred.ensures) c.onward-in-Mixed.ensures)

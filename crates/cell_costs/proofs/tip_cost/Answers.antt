@@ -16,8 +16,8 @@ returns-in-One c = rw c.in-One.is c.after.ensures
 
 pub returns-in-Two : goal.returns-in-Two
 unfolding tip_cost resting moving ◌lesser◌
-returns-in-Two c = rw c.in-Two.is c.lost.ensures
+returns-in-Two c = rw c.in-Two.is c.onward.ensures
 
 pub returns-in-Mixed : goal.returns-in-Mixed
 unfolding tip_cost resting moving ◌lesser◌
-returns-in-Mixed c = rw c.in-Mixed.is c.carried.ensures
+returns-in-Mixed c = rw c.in-Mixed.is c.onward-in-Mixed.ensures

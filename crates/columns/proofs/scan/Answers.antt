@@ -14,14 +14,6 @@ returns-then-not-fits c = let l = c.loop-i in
     let unfit : fitting (get_or a.s.now (a.at + l.i) 0) l.n (5 - l.i) ≡ false = search rules in
     misfit a.s.now a.at l.i (search rules) (rw l.invariant.worth at unfit)
 
-pub overflow_mul-n : goal.overflow_mul-n
-overflow_mul-n c = let fit : fitting (get_or c.args.s.now (c.args.at + c.loop-i.i) 0) c.loop-i.n (5 - c.loop-i.i) ≡ true = search rules in
-    let t = turn_bound _ _ _ _ _ fit c.from.ensures (search rules) c.worth.ensures in omega arith
-
-pub overflow_add-n : goal.overflow_add-n
-overflow_add-n c = let fit : fitting (get_or c.args.s.now (c.args.at + c.loop-i.i) 0) c.loop-i.n (5 - c.loop-i.i) ≡ true = search rules in
-    let t = turn_bound _ _ _ _ _ fit c.from.ensures (search rules) c.worth.ensures in omega arith
-
 pub loop-i-preserved : goal.loop-i-preserved
 loop-i-preserved c = let l = c.loop-i in
     let a = c.args in

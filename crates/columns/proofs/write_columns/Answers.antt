@@ -1,11 +1,7 @@
 -- The goals of `write_columns` that are left: see Invariants.antt for the idea.
-use Rattle.std.proofs.Common.{rules, drop}
-use Rattle.columns.specs.Fields.{columns}
-use Rattle.columns.proofs.Writing.{columns_none, columns_turn, columns_done}
+use Rattle.std.proofs.Common.{rules}
+use Rattle.columns.proofs.Writing.{columns_turn, columns_done}
 use Rattle.columns.proofs.write_columns.Goals as goal
-
-pub loop-i-init : goal.loop-i-init
-loop-i-init c = let a = c.args in columns_none a.out.now (drop a.first (columns a.n)) a.first
 
 pub loop-i-preserved : goal.loop-i-preserved
 loop-i-preserved c = let a = c.args in

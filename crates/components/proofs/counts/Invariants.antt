@@ -6,4 +6,4 @@ use Rattle.components.specs.inner.Filling.{PartedTo}
 use Rattle.components.proofs.counts.Given as goal
 
 abbrev pub invariant-loop-v : goal.invariant-loop-v
-invariant-loop-v l = (l.v ≤ l.lines.header.nodes + 1) × PartedTo (network_of l.lines) (l.v - 1) l.parts
+invariant-loop-v l = (l.v ≤ l.network.lines.now.header.nodes + 1) × PartedTo (network_of l.network.lines.now) (l.v - 1) l.parts

@@ -9,4 +9,4 @@ use Rattle.components.proofs.crowded.Goals as goal
 pub returns : goal.returns
 unfolding under
 returns c = any_upto _ _ c.any.ensures.ran refl (λ x b q k. search rules)
-    ∙ crowded_read _ _ c.args.lines.now.within.few_nodes _ c.requires
+    ∙ crowded_read c.args.lines.now _ c.requires

@@ -6,14 +6,13 @@ use Rattle.components.specs.inner.Filling.{rank_at}
 use Rattle.components.proofs.Filling.{ranked, parted_start}
 use Rattle.components.proofs.part.Goals as goal
 
-pub tops-requires : goal.tops-requires
+pub invariant_of-climbs : goal.invariant_of-climbs
 unfolding zeros
-tops-requires c = (c.requires.0, ranked _ _ c.args.lines.now.within.few_nodes _ (c.fill.ensures (rank_at c.args.lines.now.nodes) (λ v r low high k. search rules)))
+invariant_of-climbs c = record {
+  ranked = ranked c.args.network _ (c.fill.ensures (rank_at c.args.network.lines.now.nodes) (λ v r low high k. search rules));
+}
 
 pub counts-requires : goal.counts-requires
 unfolding zeros
-counts-requires c = (
-  c.requires.0,
-  parted_start _ _ c.args.lines.now.within.few_nodes _ _ (c.fill.ensures (rank_at c.args.lines.now.nodes) (λ v r low high k. search rules))
-      c.tops.ensures c.requires.0,
-)
+counts-requires c =
+    parted_start c.args.network _ _ (c.fill.ensures (rank_at c.args.network.lines.now.nodes) (λ v r low high k. search rules)) c.tops.ensures

@@ -7,16 +7,14 @@ use Rattle.finite.specs.Refusals.{verdict}
 use Rattle.columns.specs.Writing.{written}
 use Rattle.topology.specs.Networks.{is_reticulation}
 use Rattle.layout.specs.Lines.{nodes_of, genes_of, network_of}
-use Rattle.layout.specs.inner.Parts.{reticulation_count, Parted}
-use Rattle.layout.specs.inner.Genes.{gene_tree}
-use Rattle.layout.specs.Headers.{costs}
+use Rattle.layout.specs.inner.Parts.{reticulation_count}
+use Rattle.layout.specs.Headers.{costs, WithinLimits}
+use Rattle.layout.specs.declared.Header.{Header}
 use Rattle.layout.specs.declared.lines.Lines.{Lines}
 use Rattle.layout.specs.declared.parts.Parts.{Parts}
-use Rattle.layout.specs.declared.genes.Genes.{Genes}
 use Rattle.network.specs.Refusals.{network_refusals}
 use Rattle.components.specs.Refusals.{component_refusals}
 use Rattle.gene_tree.specs.Refusals.{gene_refusals}
-use Rattle.gene_tree.specs.Genes.{gene_tree_of}
 use Rattle.histories.specs.Words.{words}
 use Rattle.report.specs.declared.Totals.{Totals}
 use Rattle.search.specs.declared.Found.{Found}
@@ -28,8 +26,9 @@ use Rattle.family.specs.Reports.{report_in}
 abbrev pub contents_by : Lines → Contents
 contents_by l = record { nodes = nodes_of l; genes = genes_of l; costs = costs l.header }
 
--- buffers that hold what is written
-pub record Sized (bytes words : ℕ) : Type 0 where
+-- a header within the limits, and buffers that hold what is written
+pub record Sized (h : Header) (bytes words : ℕ) : Type 0 where
+  pub limits : WithinLimits h
   pub room : least_bytes ≤ bytes
   pub space : least_words ≤ words
 
@@ -38,13 +37,6 @@ pub record Passed (X : Contents) : Type 0 where
   pub network : verdict (network_refusals X.nodes) ≡ 0
   pub component : verdict (component_refusals X.nodes) ≡ 0
   pub genes : verdict (gene_refusals X.nodes X.genes) ≡ 0
-
--- and what is worked out once for the family stands in its tables
-pub record Worked (lines : Lines) (parts : Parts) (genes : Genes) (bytes words : ℕ) : Type 0 where
-  pub sized : Sized bytes words
-  pub passed : Passed (contents_by lines)
-  pub parted : Parted (network_of lines) parts
-  pub tree : gene_tree lines.header.genes genes ≡ gene_tree_of (nodes_of lines) (genes_of lines)
 
 -- the numbers of the report's first two lines, by what was found and by the tables
 unfoldable pub totals_by : Lines → Parts → Found → ℕ → Totals

@@ -1,6 +1,6 @@
 -- `gene_tree::build` meets its contract. Each column is filled as the definition says.
 -- Assumes nothing.
-use Rattle.std.proofs.Common.{◌≡◌, refl, sym, ◌∙◌, rules}
+use Rattle.std.proofs.Common.{◌≡◌, sym, ◌∙◌, rules}
 use Rattle.finite.specs.Tables.{at, zeros}
 use Rattle.layout.specs.Lines.{nodes_of, genes_of}
 use Rattle.gene_tree.specs.Refusals.{bearer}
@@ -9,14 +9,6 @@ use Rattle.layout.proofs.Numbered.{gene_parent_in}
 use Rattle.gene_tree.proofs.Reading.{leaf_read}
 use Rattle.gene_tree.proofs.Filling.{tree_is}
 use Rattle.gene_tree.proofs.build.Goals as goal
-
-pub next_children-requires : goal.next_children-requires
-unfolding zeros
-next_children-requires c = (c.args.lines.now.within.few_genes, refl)
-
-pub next_children-requires-2 : goal.next_children-requires-2
-unfolding zeros
-next_children-requires-2 c = (c.args.lines.now.within.few_genes, refl)
 
 pub returns : goal.returns
 unfolding zeros

@@ -8,6 +8,7 @@ use Rattle.displayed.specs.Displayed.{Displayed, NodeOf, Tree, common, way, depa
 use Rattle.displayed.specs.inner.Arcs.{move, mark}
 use Rattle.displayed.specs.inner.Tabled.{tree_in}
 use Rattle.mapping.specs.declared.Way.{Way}
+use Rattle.mapping.specs.declared.Climber.{Climber}
 use Rattle.mapping.specs.declared.Met.{Met}
 
 -- 1 for a node that two on arcs leave
@@ -31,9 +32,17 @@ pub record Light (w : Way) : Type 0 where
   pub transfers : w.transfers ≤ 1000
   pub losses : w.losses ≤ 1000
 
--- the way w once the arc into a is climbed too: a transfer where it is secondary, a loss where two on arcs leave its upper end
-unfoldable pub climbed_by : Table → Way → ℕ → Way
-climbed_by t w a = record { transfers = w.transfers + tally (lateral t a); losses = w.losses + fork_in t (up t a); last = a }
+-- a climber that has climbed no arc yet
+unfoldable pub starting : Table → ℕ → Climber
+starting t x = record { at = x; rank = rank t x; way = record { transfers = 0; losses = 0; last = 0 } }
+
+-- the climber once the arc into the node where it stands is climbed too: a transfer where it is secondary, a loss where two on arcs leave its upper end
+unfoldable pub climbed_by : Table → Climber → Climber
+climbed_by t c = record {
+  at = up t c.at;
+  rank = rank t (up t c.at);
+  way = record { transfers = c.way.transfers + tally (lateral t c.at); losses = c.way.losses + fork_in t (up t c.at); last = c.at };
+}
 
 -- w is the way from b down to x: what its arcs add up to, every node above x being passed, and its first arc, 0 where there is none
 pub record IsWay (T : Displayed) (b x : ℕ) (w : Way) : Type 0 where

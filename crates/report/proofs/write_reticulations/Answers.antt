@@ -6,8 +6,7 @@ use Rattle.report.proofs.write_reticulations.Goals as goal
 
 pub write_lines-requires-clause-told : goal.write_lines-requires-clause-told
 write_lines-requires-clause-told c = let t = c.args.tabled.now in
-    (node_lines t.lines.now t.tree.now t.parts.now, (λ v line low high k. node_told t.lines.now _ _ v low high (t.small_nodes.each v low high) (search rules)), c.requires)
+    (node_lines t, (λ v line low high k. node_told t v low high (search rules)), c.requires)
 
 pub returns : goal.returns
-returns c = let t = c.args.tabled.now in
-    c.write_lines.ensures (node_lines t.lines.now t.tree.now t.parts.now) (λ v line low high k. node_told t.lines.now _ _ v low high (t.small_nodes.each v low high) (search rules))
+returns c = let t = c.args.tabled.now in c.write_lines.ensures (node_lines t) (λ v line low high k. node_told t v low high (search rules))

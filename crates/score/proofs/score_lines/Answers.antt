@@ -1,28 +1,26 @@
--- A sheet whose header is within the limits: 5 where the length or a later line is amiss, else the outcome of its lines.
+-- The curators' refusals one after the other: what a check refuses with is the first that applies, since those before it have passed. A network that
+-- passes 6 to 10 is sound, so it has components.
 -- Assumes nothing.
-use Rattle.std.proofs.Common.{Result, subst}
-use Rattle.layout.specs.declared.lines.Lines.{Lines}
-use Rattle.refusals.specs.declared.Refusal.{Refusal}
-use Rattle.refusals.proofs.Numbers.{handed_on}
-use Rattle.sheet.specs.Sheets.{LinesRead}
-use Rattle.score.proofs.Outcomes.{header_is, amiss, numbered, five_passed, five_refused}
+use Rattle.std.proofs.Common.{sym}
+use Rattle.network.proofs.Acceptance.{no_others}
+use Rattle.answer.proofs.Answers.{reports}
+use Rattle.score.proofs.Outcomes.{sound_in, refused_by}
+use Rattle.score.proofs.Refusals.{network_refuses, component_refuses, genes_refuse}
 use Rattle.score.proofs.score_lines.Goals as goal
 
-pub read_lines-requires : goal.read_lines-requires
-read_lines-requires c = (header_is _ _ c.requires.header).limited
+pub returns-in_err-verdict : goal.returns-in_err-verdict
+returns-in_err-verdict c = refused_by _ _ _ _ _ _ c.from_residual.ensures.1 (network_refuses _ (no_others _ _) _ c.in_err-verdict.ensures)
 
-pub returns-in_err-lines : goal.returns-in_err-lines
-returns-in_err-lines c = let p = c.requires in
-    let k = header_is _ _ p.header in
-    let R = subst (λ (x : Result Lines Refusal). LinesRead c.args.sheet.now c.args.h x) c.in_err-lines.was c.read_lines.ensures in
-    rw (handed_on _ _ c.from_residual.ensures.1, R.1) (five_refused _ _ k _ _ p.room p.space (amiss _ _ k R.0))
+pub invariant_of-part : goal.invariant_of-part
+invariant_of-part c = record { sound = sound_in _ _ (sym c.in_ok-verdict.ensures) }
 
-pub score_network-requires : goal.score_network-requires
-score_network-requires c = let p = c.requires in
-    let R = subst (λ (x : Result Lines Refusal). LinesRead c.args.sheet.now c.args.h x) c.in_ok-lines.was c.read_lines.ensures in
-    numbered _ _ (header_is _ _ p.header) c.in_ok-lines.lines R _ _ p.room p.space
+pub returns-in_err-verdict-2 : goal.returns-in_err-verdict-2
+returns-in_err-verdict-2 c = refused_by _ _ _ _ _ _ c.from_residual-in_err-verdict-2.ensures.1
+    (component_refuses _ (no_others _ _) (sym c.in_ok-verdict.ensures) _ c.in_err-verdict-2.ensures)
+
+pub returns-in_err-verdict-3 : goal.returns-in_err-verdict-3
+returns-in_err-verdict-3 c = refused_by _ _ _ _ _ _ c.from_residual-in_err-verdict-3.ensures.1
+    (genes_refuse _ (no_others _ _) (sym c.in_ok-verdict.ensures) (sym c.in_ok-verdict-2.ensures) _ c.in_err-verdict-3.ensures)
 
 pub returns : goal.returns
-returns c = let p = c.requires in
-    let R = subst (λ (x : Result Lines Refusal). LinesRead c.args.sheet.now c.args.h x) c.in_ok-lines.was c.read_lines.ensures in
-    five_passed _ _ (header_is _ _ p.header) c.in_ok-lines.lines R _ _ _ _ _ p.room p.space c.score_network.ensures
+returns c = reports _ _ _ _ _ _ _ (genes_refuse _ (no_others _ _) (sym c.in_ok-verdict.ensures) (sym c.in_ok-verdict-2.ensures) _ c.in_ok-verdict-3.ensures) c.write.ensures

@@ -3,17 +3,15 @@
 -- Assumes nothing.
 use Rattle.std.specs.Prelude.{◌≡◌, List, ℕ, ◌≤◌}
 use Rattle.layout.specs.Lines.{network_of}
-use Rattle.layout.specs.inner.Parts.{Parted}
 use Rattle.layout.specs.inner.Tree.{Held}
 use Rattle.layout.specs.inner.Genes.{gene_tree}
 use Rattle.layout.specs.inner.Results as R
-use Rattle.layout.specs.Headers.{costs}
+use Rattle.layout.specs.Headers.{costs, WithinLimits}
 use Rattle.layout.specs.declared.lines.Lines.{Lines}
-use Rattle.layout.specs.declared.parts.Parts.{Parts}
 use Rattle.layout.specs.declared.tree.Tree.{Tree}
 use Rattle.layout.specs.declared.genes.Genes.{Genes}
 use Rattle.layout.specs.declared.results.Placed.{Placed}
-use Rattle.topology.specs.Networks.{Network, Sound}
+use Rattle.topology.specs.Networks.{Network}
 use Rattle.topology.specs.Switchings.{Switching}
 use Rattle.topology.specs.Components.{reticulation_count}
 use Rattle.reconciliation.specs.GeneTrees.{GeneTree, Rooted, Seated}
@@ -24,10 +22,10 @@ use Rattle.switching.specs.inner.Turning.{SomeHeld}
 use Rattle.mapping.specs.inner.Evaluation.{Lent}
 use Rattle.mapping.specs.declared.Score.{Score}
 
-pub record Prepared (lines : Lines) (parts : Parts) (genes : Genes) : Type 0 where
-  pub sound : Sound (network_of lines)
+-- what holds of them beside what the type of a network with its parts says
+pub record Prepared (lines : Lines) (genes : Genes) : Type 0 where
+  pub limits : WithinLimits lines.header
   pub few : (c : ℕ) → reticulation_count (network_of lines) c ≤ 8
-  pub parted : Parted (network_of lines) parts
   pub rooted : Rooted (gene_tree lines.header.genes genes)
   pub seated : Seated (network_of lines) (gene_tree lines.header.genes genes)
 

@@ -18,19 +18,19 @@ use Rattle.search.specs.declared.Found.{Found}
 
 module _ (g : Given) where
   abbrev pub WorkingIn : Tree → List Placed → Type 0
-  WorkingIn = Working g.lines.now g.genes.now
+  WorkingIn = Working g.network.lines.now g.genes.now
 
   abbrev pub AssembledIn : (ℕ → ℕ) → Tree → List Placed → Score → Type 0
-  AssembledIn = Assembled g.lines.now g.genes.now
+  AssembledIn = Assembled g.network.lines.now g.genes.now
 
   abbrev pub ReachedIn : Work → Stage → Type 0
-  ReachedIn w = Reached (network_of g.lines.now) (gene_tree g.lines.now.header.genes g.genes.now) (costs g.lines.now.header) w.choices
+  ReachedIn w = Reached (network_of g.network.lines.now) (gene_tree g.network.lines.now.header.genes g.genes.now) (costs g.network.lines.now.header) w.choices
 
   abbrev pub AwaitingIn : Work → Stage → Type 0
-  AwaitingIn w = Awaiting (network_of g.lines.now) (gene_tree g.lines.now.header.genes g.genes.now) (costs g.lines.now.header) w.choices
+  AwaitingIn w = Awaiting (network_of g.network.lines.now) (gene_tree g.network.lines.now.header.genes g.genes.now) (costs g.network.lines.now.header) w.choices
 
   abbrev pub LastIn : Work → ℕ → Type 0
-  LastIn w = Last (network_of g.lines.now) (gene_tree g.lines.now.header.genes g.genes.now) (costs g.lines.now.header) (best w.choices)
+  LastIn w = Last (network_of g.network.lines.now) (gene_tree g.network.lines.now.header.genes g.genes.now) (costs g.network.lines.now.header) (best w.choices)
 
   abbrev pub SearchedIn : Work → Found → Type 0
-  SearchedIn w f = Searched g.lines.now g.genes.now w.choices w.tree w.results f
+  SearchedIn w f = Searched g.network.lines.now g.genes.now w.choices w.tree w.results f

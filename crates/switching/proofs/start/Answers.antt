@@ -1,4 +1,4 @@
--- `switching::start` meets its contract. Each column is filled with what its closure reads.
+-- `switching::start` meets its contract. The parents are filled with what the closure reads, and the ranks are those of the parts.
 -- Assumes nothing.
 use Rattle.std.proofs.Common.{ap, rules}
 use Rattle.finite.specs.Tables.{at}
@@ -7,10 +7,10 @@ use Rattle.switching.proofs.Starting.{started}
 use Rattle.switching.proofs.start.Goals as goal
 
 pub child_counts-requires : goal.child_counts-requires
-child_counts-requires c = (c.args.lines.now.within.few_nodes, ap (λ (t : Tree). t.arcs) c.requires.2)
+child_counts-requires c = (c.args.network.lines.now.within.few_nodes, ap (λ (t : Tree). t.arcs) c.requires)
 
 pub returns : goal.returns
-returns c = started c.args.lines.now c.args.parts.now c.requires.1 c.requires.2
-    (c.fill.ensures (at c.args.lines.now.nodes.principal) (λ v r low high k. search rules))
-    (c.fill-2.ensures (at c.args.parts.now.rank) (λ v r low high k. search rules))
+returns c = let w = c.args.network in
+    started w c.requires
+    (c.fill.ensures (at w.lines.now.nodes.principal) (λ v r low high k. search rules))
     c.child_counts.ensures

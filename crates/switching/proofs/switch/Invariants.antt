@@ -8,4 +8,4 @@ use Rattle.switching.specs.inner.Turning.{TurnedTo}
 use Rattle.switching.proofs.switch.Given as goal
 
 abbrev pub invariant-loop-r : goal.invariant-loop-r
-invariant-loop-r l = TurnedTo (network_of l.lines) (assembled (network_of l.lines) (at l.settings)) (l.r - 1) l.t
+invariant-loop-r l = let N = network_of l.network.lines.now in TurnedTo N (assembled N (at l.settings)) (l.r - 1) l.t

@@ -1,6 +1,8 @@
 -- The goals of `count_of` that are left: see Invariants.antt for the idea.
-use Rattle.std.proofs.Common.{arith}
-use Rattle.finite.proofs.Count.{children_start, children_turn, children_done}
+use Rattle.std.proofs.Common.{◌≡◌, sym, rules, arith}
+use Rattle.finite.specs.Range.{children}
+use Rattle.finite.proofs.Tests.{not_same}
+use Rattle.finite.proofs.Count.{count_zero, children_start, children_turn, children_done}
 use Rattle.tables.proofs.Passes.{entries_many, entry_is}
 use Rattle.tables.proofs.count_of.Goals as goal
 
@@ -17,5 +19,10 @@ loop-p-preserved c = let e = entries_many c.args.n c.args.parents.now c.requires
     (omega (arith, i.0, c.one_if-count.ensures.1), children_turn _ _ _ _ _ _ i.1 (entry_is c.args.n c.args.parents.now c.loop-p.p-index (omega (arith, e, c.loop-p-test.true))) c.one_if-count.ensures.0)
 
 pub returns : goal.returns
-returns c = let e = entries_many c.args.n c.args.parents.now c.requires c.told-parents in
-    children_done _ _ c.args.n c.loop-p.p-index _ (omega (arith, e, c.loop-p.auto.p-index-end)) (omega (arith, e, c.loop-p-test.false)) c.loop-p.invariant.1
+returns c = let same_x : c.in-Ok.x ≡ c.args.x = search rules in
+    let e = entries_many c.args.n c.args.parents.now c.requires c.told-parents in
+    rw (← same_x) (children_done _ _ c.args.n c.loop-p.p-index _ (omega (arith, e, c.loop-p.auto.p-index-end)) (omega (arith, e, c.loop-p-test.false)) c.loop-p.invariant.1)
+
+pub returns-in_default : goal.returns-in_default
+unfolding children
+returns-in_default c = sym (count_zero _ _ (λ v low high. not_same (λ e. let small = c.fits-parents v in c.in_default.ensures (omega (arith, small, e)))))

@@ -4,29 +4,15 @@
 use Rattle.std.specs.Prelude.{◌≡◌, ◌≢◌, List, ℕ, ◌-◌, ◌*◌, ◌≤◌, length}
 use Rattle.finite.specs.Tables.{at}
 use Rattle.layout.specs.declared.Header.{Header}
-use Rattle.layout.specs.declared.lines.Lines.{Lines}
-use Rattle.layout.specs.declared.genes.Genes.{Genes}
-use Rattle.layout.specs.Headers.{costs}
-use Rattle.layout.specs.Lines.{nodes_of, genes_of}
-use Rattle.layout.specs.inner.Genes.{left, right, gene_tree}
+use Rattle.layout.specs.inner.Genes.{left, right}
 use Rattle.histories.specs.Histories.{Family}
-use Rattle.histories.specs.Families.{family_of}
-use Rattle.histories.specs.inner.Accepted.{Accepted}
-use Rattle.histories.specs.inner.Grades.{Prepared}
 use Rattle.histories.specs.inner.Rows.{Rows, Partly, Kept}
-use Rattle.arcs.specs.inner.Arcs.{order, leaving_in}
+use Rattle.arcs.specs.inner.Arcs.{order}
 use Rattle.whole_network.specs.declared.Kind.{Kind}
 use Rattle.whole_network.specs.declared.Kind.TheVariants.{Tip, Pair}
 use Rattle.whole_network.specs.declared.Row.{Row}
-use Rattle.whole_network.specs.declared.Source.{Source}
-
--- the gene family of a sheet
-abbrev pub family_in : Lines → Genes → Family
-family_in l t = family_of (nodes_of l) (genes_of l) (gene_tree l.header.genes t) (costs l.header)
-
--- no refusal applies to it
-abbrev pub AcceptedIn : Lines → Genes → Type 0
-AcceptedIn l t = Accepted (nodes_of l) (genes_of l) (gene_tree l.header.genes t) (costs l.header)
+use Rattle.whole_network.specs.declared.source.Source.{Source}
+pub use Rattle.whole_network.specs.inner.Families.{family_in, AcceptedIn}
 
 -- the header of its lines
 abbrev pub header : Source → Header
@@ -36,15 +22,9 @@ header f = f.lines.now.header
 abbrev pub family : Source → Family
 family f = family_in f.lines.now f.genes.now
 
--- the table of the arcs has the family's arcs and an order in which to fill a row
-pub record Ready (f : Source) : Type 0 where
-  pub prepared : Prepared (family f) (order f.arcs)
-  pub outs : (v : ℕ) → 1 ≤ v → v ≤ (header f).nodes → (family f).out v ≡ leaving_in f.lines.now.nodes f.arcs v
-
--- and the words s have room for the table
-pub record Filling (f : Source) (s : List ℕ) : Type 0 where
-  pub ready : Ready f
-  pub room : (header f).genes * (header f).nodes ≤ length s
+-- the words s have room for the table
+abbrev pub HasRoom : Source → List ℕ → Type 0
+HasRoom f s = (header f).genes * (header f).nodes ≤ length s
 
 -- what the words of gene g depend on: of a leaf gene its species, of an inner gene where its children's rows begin
 abbrev pub KindOf : Source → ℕ → Kind → Type 0
@@ -70,7 +50,7 @@ KeptIn f s t = Kept (family f) s t
 
 -- the node at place i of the order is next in the row of a gene
 pub record Next (f : Source) (s : List ℕ) (r : Row) (i : ℕ) : Type 0 where
-  pub filling : Filling f s
+  pub room : HasRoom f s
   pub row : RowOf f r
   pub low : 1 ≤ i
   pub high : i ≤ (header f).nodes

@@ -4,4 +4,4 @@ use Rattle.layout.specs.Lines.{network_of}
 use Rattle.arcs.proofs.Walk.+visit.Given as goal
 
 abbrev pub decreases-visit : goal.decreases-visit
-decreases-visit l = (network_of l.lines.now).rank l.v
+decreases-visit l = (network_of l.network.lines.now).rank l.v

@@ -1,4 +1,4 @@
--- One node after the other.
+-- One node after the other. (Not by `using`, which does not show what the law asks of the closure.)
 -- Assumes nothing.
 use Rattle.std.proofs.Common.{refl, rules}
 use Rattle.finite.proofs.Upto.{any_upto}

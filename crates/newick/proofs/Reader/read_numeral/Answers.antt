@@ -1,6 +1,5 @@
 -- The goals of `read_numeral` that are left: see Invariants.antt for the idea.
 use Rattle.std.proofs.Common.{◌≡◌, ◌+◌, ◌-◌, ◌∙◌, suc, arith}
-use Rattle.std.proofs.Math.Nat.{pow-le-pow_right}
 use Rattle.newick.proofs.Digits.{leaf_none, leaf_zero, leaf_first, more_none, more_end, more_turn, next_digit}
 use Rattle.newick.proofs.Reader.read_numeral.Goals as goal
 
@@ -21,11 +20,6 @@ loop-next-init c =
 
 pub returns-in_default-clause-value : goal.returns-in_default-clause-value
 returns-in_default-clause-value c = more_none _ _ _ _ _ c.loop-next.invariant.rest c.in_default.ensures.value
-
-pub overflow_add-species : goal.overflow_add-species
-overflow_add-species c =
-    let l = c.loop-next in
-    omega (arith, c.in-Some.ensures.few, pow-le-pow_right {n = 10} (omega arith) {i = l.next - c.args.at} {j = 8} (omega arith))
 
 pub loop-next-preserved : goal.loop-next-preserved
 loop-next-preserved c =

@@ -1,5 +1,5 @@
--- `newick::Reader::read_numeral` meets its contract. The invariant: the number that the digits so far make, with those that may follow, is what `leaf_at` finds,
--- and it has as many digits as have been passed.
+-- `newick::Reader::read_numeral` meets its contract. The invariant: the number that the digits so far make, with those that may follow, is what `leaf_at`
+-- finds, and it has as many digits as have been passed.
 -- Assumes nothing.
 use Rattle.std.proofs.Common.{◌+◌, ◌-◌, ◌^◌, ◌<◌, ◌≡◌, Some}
 use Rattle.newick.specs.Reading.{more_at, leaf_at}

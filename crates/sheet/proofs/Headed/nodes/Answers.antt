@@ -1,8 +1,8 @@
 -- The goals of `nodes` that are left: see Invariants.antt for the idea.
-use Rattle.std.proofs.Common.{sym, ◌∙◌, refl, rules, arith}
+use Rattle.std.proofs.Common.{sym, ◌∙◌, arith}
 use Rattle.finite.specs.Tables.{zeros}
 use Rattle.finite.proofs.Every.{every_start}
-use Rattle.sheet.proofs.Reading.{nodes_start, nodes_turn, nodes_stop, nodes_end}
+use Rattle.sheet.proofs.Reading.{nodes_start, nodes_turn, lines_stop}
 use Rattle.sheet.proofs.Headed.nodes.Goals as goal
 
 pub loop-v-init : goal.loop-v-init
@@ -10,7 +10,7 @@ unfolding zeros
 loop-v-init c = record { within = omega arith; every_line = every_start _; columns = nodes_start _ }
 
 pub returns-in_err-principal : goal.returns-in_err-principal
-returns-in_err-principal c = rw c.from_residual.ensures (nodes_stop _ _ c.loop-v.v c.loop-v.auto.v (omega (arith, c.loop-v-test.true)) (sym c.in_err-principal.was ∙ c.node.ensures))
+returns-in_err-principal c = rw c.from_residual.ensures (lines_stop _ _ c.loop-v.v _ c.loop-v.auto.v (omega (arith, c.loop-v-test.true)) (sym c.in_err-principal.was ∙ c.node.ensures))
 
 pub loop-v-preserved : goal.loop-v-preserved
 loop-v-preserved c = let i = c.loop-v.invariant in
@@ -19,5 +19,4 @@ loop-v-preserved c = let i = c.loop-v.invariant in
 
 pub returns-in_ok-principal : goal.returns-in_ok-principal
 returns-in_ok-principal c = let i = c.loop-v.invariant in
-    nodes_end _ _ c.loop-v.v _ (search rules) (omega (arith, c.loop-v-test.true))
-    (nodes_turn _ c.loop-v.v _ _ _ c.loop-v.auto.v refl (sym c.in_ok-principal.was ∙ c.node.ensures) i.every_line i.columns)
+    nodes_turn _ c.loop-v.v _ _ _ c.loop-v.auto.v (omega (arith, c.loop-v-test.true)) (sym c.in_ok-principal.was ∙ c.node.ensures) i.every_line i.columns

@@ -4,8 +4,8 @@
 use Rattle.search.proofs.Turns.{family_held, assembly}
 use Rattle.search.proofs.given.Given.evaluated.Goals as goal
 
-pub evaluate-requires : goal.evaluate-requires
-evaluate-requires c = (family_held c.args.self.now.prepared _ c.switch.ensures, c.requires.lent)
+pub invariant_of-seated : goal.invariant_of-seated
+invariant_of-seated c = record { family = family_held c.args.self.now _ c.switch.ensures }
 
 pub returns : goal.returns
-returns c = assembly c.args.self.now.prepared _ c.switch.ensures c.evaluate.ensures.score c.evaluate.ensures.evaluated
+returns c = assembly c.args.self.now _ c.switch.ensures c.evaluate.ensures.score c.evaluate.ensures.evaluated
