@@ -1,4 +1,3 @@
-pub mod Assembling
 pub mod Steps
 pub mod Turns
 pub mod Settled

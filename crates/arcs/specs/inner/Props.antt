@@ -2,6 +2,8 @@
 -- Assumes nothing.
 use Rattle.std.specs.Prelude.{◌≡◌, ◌≢◌, ℕ, ◌≤◌, ◌<◌}
 use Rattle.std.proofs.Common.{arith}
+use Rattle.std.proofs.Math.Logic.{by_cases}
+use Rattle.layout.specs.inner.Props.{one}
 use Rattle.topology.specs.Networks.{Network, Node}
 use Rattle.topology.specs.Lines.{NodeLines}
 use Rattle.arcs.specs.declared.Arcs.{Arcs}
@@ -11,14 +13,6 @@ use mathlib.Core.HLevel.{is_prop→PathP}
 use mathlib.Core.Path.{sym, ◌∙◌, ap, fun_ext}
 use native.Mathlib.Decide.{ℕ_discrete, dec_lt}
 
-by_dec : {P A : Type 0} → Dec P → (P → A) → (¬ P → A) → A
-by_dec (yes p) f g = f p
-by_dec (no q) f g = g q
-
--- as h says, with the type read off x
-one : {A : Type 0} (x y : A) → IsProp A → x ≡ y
-one x y h = h x y
-
 module _ {N : Network} {f : ℕ → ℕ} (x y : Ordered N f) where
   at_node : (v : ℕ) → Node N v → x.places.place v ≡ y.places.place v
   at_node v k = sym (y.places.placed (x.places.place v) (x.places.place_low v k) (x.places.place_high v k)) ∙ ap y.places.place (x.places.visits v k)
@@ -27,9 +21,9 @@ module _ {N : Network} {f : ℕ → ℕ} (x y : Ordered N f) where
   at_none v d = x.elsewhere v d ∙ sym (y.elsewhere v d)
 
   at_each : (v : ℕ) → x.places.place v ≡ y.places.place v
-  at_each v = by_dec (ℕ_discrete v 0)
+  at_each v = by_cases (ℕ_discrete v 0)
       (λ e. at_none v (λ k. omega (arith, k.low)))
-      (λ d. by_dec (dec_lt N.size v) (λ l. at_none v (λ k. omega (arith, k.high))) (λ l. at_node v (record { low = omega arith; high = omega arith })))
+      (λ d. by_cases (dec_lt N.size v) (λ l. at_none v (λ k. omega (arith, k.high))) (λ l. at_node v (record { low = omega arith; high = omega arith })))
 
 pub ordered_prop : (N : Network) (f : ℕ → ℕ) → IsProp (Ordered N f)
 ordered_prop N f x y =

@@ -1,5 +1,5 @@
 -- The steps reach the machine's last state (proofs/Steps); the switching of its bests is then evaluated, and crate optimum says that it is the
--- cheapest (proofs/Assembling).
+-- cheapest (proofs/Turns).
 -- Assumes nothing.
 use Rattle.search.proofs.Turns.{works_first, leaves_low, searched}
 use Rattle.search.proofs.given.Given.run.Goals as goal
