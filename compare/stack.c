@@ -1,6 +1,7 @@
 /*
- * How much stack the call takes: each sheet is scored in a thread whose stack was filled with a pattern, and what is left of the pattern
- * tells how deep the call went, less what a thread that does nothing takes. It fails above the 32 KiB that the header states.
+ * How much stack the calls take: each sheet is scored in a thread whose stack was filled with a pattern, and what is left of the pattern
+ * tells how deep the call went, less what a thread that does nothing takes. A sheet with a tree beside it (NAME.sheet and NAME.tree) is
+ * scored with that. It fails above 32 KiB, and with a tree above 64 KiB: its readers go as deep as its brackets.
  */
 #include <pthread.h>
 #include <stdio.h>
@@ -10,11 +11,24 @@
 #include "lgt_score.h"
 
 #define STATED (32 * 1024)
+#define STATED_WITH_TREE (64 * 1024)
 #define STACK (1024 * 1024)
 #define PATTERN 0xA5
 
-static uint8_t sheet[LGT_SCORE_SHEET_BYTES + 1];
-static size_t sheet_len;
+/* The longest sheet, and so every tree that is read, and a byte more. */
+#define ROOM (LGT_SCORE_SHEET_BYTES + 1)
+
+struct text {
+    uint8_t bytes[ROOM];
+    size_t len;
+};
+
+struct most {
+    size_t taken;
+    int calls;
+};
+
+static struct text sheet, tree;
 static uint8_t result[LGT_SCORE_RESULT_BYTES];
 static uint32_t scratch[LGT_SCORE_SCRATCH_WORDS];
 static _Alignas(4096) uint8_t stack[STACK];
@@ -22,7 +36,12 @@ static _Alignas(4096) uint8_t stack[STACK];
 static void *idle(void *nothing) { return nothing; }
 
 static void *score(void *nothing) {
-    lgt_score(sheet, sheet_len, result, sizeof result, scratch, LGT_SCORE_SCRATCH_WORDS);
+    lgt_score(sheet.bytes, sheet.len, result, sizeof result, scratch, LGT_SCORE_SCRATCH_WORDS);
+    return nothing;
+}
+
+static void *score_newick(void *nothing) {
+    lgt_score_newick(sheet.bytes, sheet.len, tree.bytes, tree.len, result, sizeof result, scratch, LGT_SCORE_SCRATCH_WORDS);
     return nothing;
 }
 
@@ -42,21 +61,45 @@ static size_t taken_by(void *(*work)(void *)) {
     return STACK - untouched;
 }
 
+static int is_read(const char *name, struct text *text) {
+    FILE *file = fopen(name, "rb");
+    if (!file) {
+        return 0;
+    }
+    text->len = fread(text->bytes, 1, sizeof text->bytes, file);
+    fclose(file);
+    return 1;
+}
+
+/* Whether there is a tree beside a sheet; it is then read. */
+static int has_tree(const char *sheet_name) {
+    char name[4096];
+    size_t stem = strlen(sheet_name) - strlen(".sheet");
+    return snprintf(name, sizeof name, "%.*s.tree", (int)stem, sheet_name) < (int)sizeof name && is_read(name, &tree);
+}
+
+static void measure(void *(*work)(void *), struct most *most) {
+    size_t own = taken_by(idle), whole = taken_by(work);
+    if (whole > own && whole - own > most->taken) {
+        most->taken = whole - own;
+    }
+    most->calls++;
+}
+
 int main(int count, char **names) {
-    size_t most = 0;
+    struct most alone = {0, 0}, with_tree = {0, 0};
     for (int i = 1; i < count; i++) {
-        FILE *file = fopen(names[i], "rb");
-        if (!file) {
-            fprintf(stderr, "there is no file %s that can be read\n", names[i]);
+        if (strlen(names[i]) < strlen(".sheet") || !is_read(names[i], &sheet)) {
+            fprintf(stderr, "there is no sheet %s that can be read\n", names[i]);
             return 2;
         }
-        sheet_len = fread(sheet, 1, sizeof sheet, file);
-        fclose(file);
-        size_t own = taken_by(idle), whole = taken_by(score);
-        if (whole > own && whole - own > most) {
-            most = whole - own;
+        if (has_tree(names[i])) {
+            measure(score_newick, &with_tree);
+        } else {
+            measure(score, &alone);
         }
     }
-    printf("stack: at most %zu bytes over %d sheets, %d stated\n", most, count - 1, STATED);
-    return most < STATED ? 0 : 1;
+    printf("stack: at most %zu bytes over %d sheets, %d stated\n", alone.taken, alone.calls, STATED);
+    printf("stack: at most %zu bytes over %d sheets with trees, %d stated\n", with_tree.taken, with_tree.calls, STATED_WITH_TREE);
+    return alone.taken < STATED && with_tree.taken < STATED_WITH_TREE ? 0 : 1;
 }

@@ -8,7 +8,13 @@ import os
 import re
 import sys
 
-ROOTS = ["crates/score/specs/Outcome.antt", "crates/score_c/specs/Exported.antt", "crates/reply/specs/Replies.antt"]
+ROOTS = [
+    "crates/score/specs/Outcome.antt",
+    "crates/score_newick/specs/Outcome.antt",
+    "crates/score_c/specs/Exported.antt",
+    "crates/reply/specs/Replies.antt",
+    "crates/reply_newick/specs/Replies.antt",
+]
 USE = re.compile(r"^(?:unfoldable )?(?:pub )?use Rattle\.(\w+)\.specs\.([\w.]+?)(?:\.\{|$| as )", re.M)
 
 

@@ -9,6 +9,9 @@ follows no link, and lists every sheet in its arguments and expected output. The
 refused-* and longest* are made here, their replies worked out from the rules: a refusal's number by the one thing that is wrong with its
 sheet, and the longest sheets' reports from their making (the gene tree is the species tree, so every gene sits at the node that it was made with,
 and nothing is lost).
+
+All of sheets/newick/ is made here: sheets without gene lines, each with its gene tree as text in NAME.tree. What the known sheets' gene trees come to
+is the report beside the known sheet; compare/examples holds the examples to them.
 """
 import glob
 import os
@@ -51,6 +54,17 @@ def caterpillar(number=lambda v: v):
     genes = [(g - 1, 0) for g in inner] + [(min(j, 63), j) for j in range(1, 65)]
     report = [(0, 0, 0, 0, 0), (0, 127, 127, 0, 0)] + [(g, name(g), 1 if g <= 63 else 0, 0, 0) for g in range(1, 128)]
     return sheet(COSTS, [placed[v] for v in range(1, 128)], genes), report
+
+
+def comb():
+    """The longest tree as text, of 64 species with six digits, and a sheet whose network is that tree: gene 2i - 1 is the i-th pair from the root, and
+    gene 2i the leaf in it."""
+    inner, leaves = range(1, 64), range(64, 128)
+    nodes = [(v - 1, 0, v - 1, 0) for v in inner] + [(min(v - 63, 63), 0, 99, 100000 + v) for v in leaves]
+    tree = "".join(f"({100000 + v}," for v in leaves[:-1]) + str(100000 + leaves[-1]) + ")" * 63 + ";"
+    places = [v for i in inner for v in (i, 63 + i)] + [127]
+    report = [(0, 0, 0, 0, 0), (0, 127, 127, 0, 0)] + [(g, v, 1 if v <= 63 else 0, 0, 0) for g, v in enumerate(places, 1)]
+    return sheet(COSTS, nodes, []).replace("   127     0", "   127     1", 1), tree, report
 
 
 def ladder(rungs):
@@ -118,20 +132,58 @@ def cases():
     ]
 
 
+def newick_cases():
+    """(name, sheet, tree, report, number of refusal or the name of a sheet of sheets/ with the same genes)"""
+    network = sheet(COSTS, NODES, []).replace("     7     0", "     7     1", 1)
+    tree = "(1,(2,3));"
+    longest, longest_tree, longest_report = comb()
+    assert len(longest) == 3968 and len(longest_tree) == 574
+    many = "(1," * 64 + "1" + ")" * 64 + ";"
+    return [
+        ("k", network, tree, "k"),
+        ("04-pair-first", network, "((3,2),2);", "04-pair-first"),
+        ("06-one-gene", network, "2;", "06-one-gene"),
+        ("longest", longest, longest_tree, longest_report),
+        ("refused-04-genes-5", network.replace("     7     1", "     7     5", 1), tree, 4),
+        ("refused-05-gene-line", network + line(1, 0, 2, 0, 0), tree, 5),
+        ("refused-13-species-not-there", network, "(1,(2,9));", 13),
+        ("refused-14-line-feed", network, tree + "\n", 14),
+        ("refused-14-no-semicolon", network, tree[:-1], 14),
+        ("refused-14-leading-zero", network, "(1,(2,03));", 14),
+        ("refused-14-three-in-brackets", network, "(1,2,3);", 14),
+        ("refused-14-broken-off", network, many[: 3 * 64], 14),
+        ("refused-15-genes-129", network, many, 15),
+        ("refused-15-longest-and-line-feed", longest, longest_tree + "\n", 15),
+    ]
+
+
 def written(reply):
     return f"refused{reply:6d}\n" if isinstance(reply, int) else "".join(line(*row) for row in reply)
 
 
+def make(name, reply, **contents):
+    """A file for each ending, and the report; that of a sheet of sheets/ stands there."""
+    if isinstance(reply, str):
+        with open(f"sheets/{reply}.report", newline="") as file:
+            contents["report"] = file.read()
+    else:
+        contents["report"] = written(reply)
+    for ending, content in contents.items():
+        with open(f"sheets/{name}.{ending}", "w", newline="") as file:
+            file.write(content)
+
+
 def main():
-    for made in glob.glob("sheets/refused-*") + glob.glob("sheets/longest*"):
+    for made in glob.glob("sheets/refused-*") + glob.glob("sheets/longest*") + glob.glob("sheets/newick/*"):
         os.remove(made)
+    os.makedirs("sheets/newick", exist_ok=True)
     for name, text, reply in cases():
-        for ending, content in (("sheet", text), ("report", written(reply))):
-            with open(f"sheets/{name}.{ending}", "w", newline="") as file:
-                file.write(content)
+        make(name, reply, sheet=text)
+    for name, text, tree, reply in newick_cases():
+        make(f"newick/{name}", reply, sheet=text, tree=tree)
     names = sorted(os.path.basename(path)[: -len(".sheet")] for path in glob.glob("sheets/*.sheet"))
     shutil.rmtree("crates/reply_test/data")
-    shutil.copytree("sheets", "crates/reply_test/data")
+    shutil.copytree("sheets", "crates/reply_test/data", ignore=shutil.ignore_patterns("newick"))
     for file, told in (("args", ""), ("stdout", ": as expected")):
         with open(f"crates/reply_test/{file}", "w") as listed:
             listed.writelines(f"{name}{told}\n" for name in names)

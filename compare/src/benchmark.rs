@@ -3,11 +3,12 @@
 use std::fmt::Write;
 use std::hint::black_box;
 
-use crate::differential::Tally;
-use crate::families::{self, Family, GeneShape, Growth, NetworkPlan};
+use crate::calls::Call;
+use crate::families::{self, Growth};
 use crate::random::Random;
 use crate::reference::{self, RESULT_BYTES, SCRATCH_WORDS, whole};
-use crate::{damage, proved};
+use crate::tally::Tally;
+use crate::workloads::{self, Workload};
 
 /// Rounds in which both are timed one after the other, and how long each lasts in a round.
 const ROUNDS: usize = 25;
@@ -31,25 +32,29 @@ fn microseconds_used() -> f64 {
     time.seconds as f64 * 1e6 + time.nanoseconds as f64 / 1e3
 }
 
-/// Sheets of one kind.
-struct Workload {
-    name: String,
-    texts: Vec<Vec<u8>>,
+/// Calls, and the implementation that answers them.
+#[derive(Clone, Copy)]
+struct Side<'a> {
+    calls: &'a [Call],
+    score: Score,
 }
 
-/// A workload's line of the table: microseconds a sheet (medians over rounds) and the ratio of the times,
-/// proved over Rust, as median, least and greatest over rounds.
+type Score = fn(&Call, &mut [u8], &mut [u32]) -> u32;
+
+fn by_proved(call: &Call, result: &mut [u8], scratch: &mut [u32]) -> u32 {
+    call.proved(result, scratch)
+}
+
+fn by_reference(call: &Call, result: &mut [u8], scratch: &mut [u32]) -> u32 {
+    call.reference(result, scratch).number()
+}
+
+/// A workload's line of a table: microseconds a call on either side (medians over rounds) and the ratio of the times, the
+/// second's over the first's, as median, least and greatest over rounds.
 struct Line {
     name: String,
-    rust: f64,
-    proved: f64,
+    times: [f64; 2],
     ratio: [f64; 3],
-}
-
-type Score = fn(&[u8], &mut [u8], &mut [u32]) -> u32;
-
-fn by_reference(text: &[u8], result: &mut [u8], scratch: &mut [u32]) -> u32 {
-    reference::score(text, result, scratch).number()
 }
 
 struct Timer {
@@ -62,43 +67,43 @@ impl Timer {
         Timer { result: vec![0; RESULT_BYTES], scratch: vec![0; SCRATCH_WORDS] }
     }
 
-    /// Microseconds a sheet over `passes` passes over the texts.
-    fn microseconds(&mut self, score: Score, texts: &[Vec<u8>], passes: usize) -> f64 {
+    /// Microseconds a call over `passes` passes over the calls.
+    fn microseconds(&mut self, side: Side, passes: usize) -> f64 {
         let start = microseconds_used();
         for _ in 0..passes {
-            for text in texts {
-                black_box(score(black_box(text), &mut self.result, &mut self.scratch));
+            for call in side.calls {
+                black_box((side.score)(black_box(call), &mut self.result, &mut self.scratch));
             }
         }
-        (microseconds_used() - start) / (passes * texts.len()) as f64
+        (microseconds_used() - start) / (passes * side.calls.len()) as f64
     }
 
-    fn line(&mut self, workload: &Workload) -> Line {
-        let texts = &workload.texts;
+    /// Rust against the proved entry on the same calls.
+    fn implementations(&mut self, workload: &Workload) -> Line {
+        let calls = &workload.calls;
+        self.line(&workload.name, [Side { calls, score: by_reference }, Side { calls, score: by_proved }])
+    }
+
+    fn line(&mut self, name: &str, sides: [Side; 2]) -> Line {
         // The first pass warms the caches, the second says how many passes a round takes.
-        let [_, once] = [1, 2].map(|_| {
-            self.microseconds(by_reference, texts, 1).max(self.microseconds(proved::score, texts, 1))
-        });
-        let passes = (ROUND_TIME / (once * texts.len() as f64)).ceil().clamp(1.0, 1e6) as usize;
+        let [_, once] = [1, 2].map(|_| sides.map(|side| self.microseconds(side, 1)));
+        let longest = once[0].max(once[1]) * sides[0].calls.len() as f64;
+        let passes = (ROUND_TIME / longest).ceil().clamp(1.0, 1e6) as usize;
         let mut times = [vec![], vec![]];
         let mut ratios = vec![];
         for round in 0..ROUNDS {
             // The one that goes first changes from round to round.
-            let order: [(usize, Score); 2] = [(0, by_reference), (1, proved::score)];
             let mut now = [0.0; 2];
-            for i in 0..2 {
-                let (who, score) = order[(i + round) % 2];
-                now[who] = self.microseconds(score, texts, passes);
-                times[who].push(now[who]);
+            for i in [round % 2, (round + 1) % 2] {
+                now[i] = self.microseconds(sides[i], passes);
+                times[i].push(now[i]);
             }
             ratios.push(now[1] / now[0]);
         }
         ratios.sort_by(f64::total_cmp);
-        let [mut rust, mut proved] = times;
         Line {
-            name: workload.name.clone(),
-            rust: median(&mut rust),
-            proved: median(&mut proved),
+            name: name.to_string(),
+            times: times.map(|mut times| median(&mut times)),
             ratio: [ratios[ROUNDS / 2], ratios[0], ratios[ROUNDS - 1]],
         }
     }
@@ -113,122 +118,79 @@ fn median(values: &mut [f64]) -> f64 {
 pub fn run(seed: u64) -> String {
     let mut timer = Timer::new();
     let mut random = Random::new(seed);
-    let mut table = String::new();
-    let heading = format!(
-        "{:<52} {:>12} {:>12} {:>11} {:>11}  {:>6} {:>15}\n",
-        "sheets", "Rust µs", "proved µs", "Rust /s", "proved /s", "ratio", "least - most"
-    );
-    table.push_str(&heading);
-    print!("{heading}");
-    for workload in workloads(&mut random) {
-        let line = timer.line(&workload).text();
-        print!("{line}");
-        table.push_str(&line);
+    let mut table = Table::default();
+    table.heading("sheets", ["Rust", "proved"]);
+    for workload in workloads::plain(&mut random) {
+        table.push(&timer.implementations(&workload).text());
     }
-    let alone = table_alone(&mut random, &mut timer);
-    print!("{alone}");
-    table + &alone
+    table.push(&table_alone(&mut random, &mut timer));
+    newick(&mut random, &mut timer, &mut table);
+    table.0
+}
+
+/// What has been timed, printed as it comes.
+#[derive(Default)]
+struct Table(String);
+
+impl Table {
+    fn push(&mut self, text: &str) {
+        print!("{text}");
+        self.0.push_str(text);
+    }
+
+    fn heading(&mut self, name: &str, [one, other]: [&str; 2]) {
+        self.push(&format!(
+            "{name:<52} {:>12} {:>12} {:>11} {:>11}  {:>6} {:>15}\n",
+            format!("{one} µs"),
+            format!("{other} µs"),
+            format!("{one} /s"),
+            format!("{other} /s"),
+            "ratio",
+            "least - most"
+        ));
+    }
 }
 
 impl Line {
     fn text(&self) -> String {
-        let (name, rust) = (&self.name, self.rust);
-        let (proved, [middle, least, most]) = (self.proved, self.ratio);
+        let (name, [one, other], [middle, least, most]) = (&self.name, self.times, self.ratio);
         let spread = format!("{least:.2} - {most:.2}");
         format!(
-            "{name:<52} {rust:>12.2} {proved:>12.2} {:>11.0} {:>11.0}  {middle:>6.2} {spread:>15}\n",
-            1e6 / rust,
-            1e6 / proved,
+            "{name:<52} {one:>12.2} {other:>12.2} {:>11.0} {:>11.0}  {middle:>6.2} {spread:>15}\n",
+            1e6 / one,
+            1e6 / other,
         )
     }
 }
 
-fn workloads(random: &mut Random) -> Vec<Workload> {
-    let mut all = vec![
-        sheets("(a) typical: 11 species, 2 highways, 21 genes", 500, || families::typical(random, 11, 2, 21)),
-        sheets("(b) most trials, deep: 896, n = m = 127", 6, || families::largest(random, 31, Growth::Deep)),
-        sheets("(b) most trials, wide: 896, n = m = 127", 6, || families::largest(random, 31, Growth::Wide)),
-        sheets("(b) most trials, mixed: 896, n = m = 127", 6, || {
-            families::largest(random, 31, Growth::Anywhere)
-        }),
-        sheets("(c) no reticulation, deep: n = m = 127", 30, || families::largest(random, 0, Growth::Deep)),
-        sheets("(c) no reticulation, mixed: n = m = 127", 30, || {
-            families::largest(random, 0, Growth::Anywhere)
-        }),
-    ];
-    for m in [1, 15, 31, 63, 127] {
-        all.push(sheets(&format!("(d) m = {m}: n = 63, 4 in a component"), 30, || sized(random, 63, 4, m)));
+/// The Newick call beside the plain call of the proved entry on the same families, beside Rust's Newick call, and by the length of the text.
+fn newick(random: &mut Random, timer: &mut Timer, table: &mut Table) {
+    let workloads = workloads::newick(random);
+    table.heading("\nproved, the gene tree as lines and as Newick text", ["lines", "Newick"]);
+    for Workload { name, calls } in &workloads {
+        let plain: Vec<Call> =
+            calls.iter().map(|call| call.written_out().expect("a scored family")).collect();
+        let sides = [plain.as_slice(), calls].map(|calls| Side { calls, score: by_proved });
+        table.push(&timer.line(name, sides).text());
     }
-    for n in [15, 31, 63, 127] {
-        all.push(sheets(&format!("(d) n = {n}: m = 63, 3 in a component"), 30, || sized(random, n, 3, 63)));
+    table.heading("\nNewick", ["Rust", "proved"]);
+    for workload in &workloads {
+        table.push(&timer.implementations(workload).text());
     }
-    for r in [0, 1, 2, 4, 6, 8, 16, 31] {
-        all.push(sheets(&format!("(d) {r} reticulations: n = m = 127"), 8, || sized(random, 127, r, 127)));
-    }
-    all.push(garbage("refusal 3: 7,905 random bytes", 50, || {
-        (0..7_905).map(|_| random.next() as u8).collect()
-    }));
-    all.push(garbage("refusal 5: largest sheet, its last byte wrong", 20, || {
-        let mut text = families::largest(random, 8, Growth::Anywhere).text();
-        *text.last_mut().expect("a byte") = b' ';
-        text
-    }));
-    all.push(garbage("refusal 5: header, then a million random bytes", 1, || {
-        let mut text = families::largest(random, 8, Growth::Anywhere).text();
-        text.extend((0..1_000_000).map(|_| random.next() as u8));
-        text
-    }));
-    all.push(garbage("refusal 11: n = m = 127, over 8 in a component", 20, || {
-        loop {
-            let text = large_component(random).text();
-            if reference::judge(&text).err() == Some(reference::Refusal::LargeComponent) {
-                return text;
-            }
-        }
-    }));
-    all.push(garbage("refusals 3 to 13, damaged sheets", 500, || {
-        let number = random.within(3, 13) as u32;
-        damage::aimed(random, number)
-    }));
-    all
+    let faults = workloads::last_byte_faults();
+    let lines = faults.each_ref().map(|(_, workload)| timer.implementations(workload));
+    lines.iter().for_each(|line| table.push(&line.text()));
+    let lengths = faults.map(|(length, _)| length);
+    table.push(&nanoseconds_a_byte(lengths, lines.map(|line| line.times[1])));
 }
 
-fn sheets(name: &str, count: usize, mut make: impl FnMut() -> Family) -> Workload {
-    let texts: Vec<Vec<u8>> = (0..count).map(|_| make().text()).collect();
-    assert!(texts.iter().all(|text| reference::judge(text).is_ok()), "{name}: a sheet is refused");
-    Workload { name: name.to_string(), texts }
-}
-
-fn garbage(name: &str, count: usize, make: impl FnMut() -> Vec<u8>) -> Workload {
-    Workload { name: name.to_string(), texts: std::iter::repeat_with(make).take(count).collect() }
-}
-
-/// A network of n nodes with r reticulations, as many in a component as may be, and m genes.
-fn sized(random: &mut Random, n: usize, r: usize, m: usize) -> Family {
-    let family = dense(random, (n - 1) / 2 - r, r, 8, m);
-    assert_eq!(family.nodes.len(), n);
-    family
-}
-
-fn large_component(random: &mut Random) -> Family {
-    dense(random, 40, 23, 23, 127)
-}
-
-/// Speciations and transfers, at most so many of these in a component and as many as may be, and m genes.
-fn dense(random: &mut Random, speciations: usize, transfers: usize, in_component: usize, m: usize) -> Family {
-    let plan = NetworkPlan {
-        speciations,
-        transfers,
-        in_component,
-        dense: true,
-        only_reticulations: false,
-        growth: Growth::Anywhere,
-        stamp_gap: 1,
-        shuffled: true,
-    };
-    let mut family = Family { costs: [2, 3, 1], nodes: families::network(random, plan), genes: vec![] };
-    family.genes = families::gene_tree(random, m.div_ceil(2), GeneShape::Anyhow, &family.species());
-    family
+/// By how much the time grows with each byte from one length to the next: the same where reading is linear in the text.
+fn nanoseconds_a_byte(lengths: [usize; 4], times: [f64; 4]) -> String {
+    let steps = (1..4).map(|i| {
+        let [from, to] = [lengths[i - 1], lengths[i]];
+        format!("{from} to {to} {:.2}", 1e3 * (times[i] - times[i - 1]) / (to - from) as f64)
+    });
+    format!("reading, proved: ns a byte more: {}\n", steps.collect::<Vec<_>>().join(", "))
 }
 
 /// The whole-network table without the rest of the call, which the static library does not export.
@@ -274,19 +236,26 @@ pub fn page(table: &str, machine: &str, date: &str, kit: &str, tally: &Tally, ol
     format!(
         "# Performance
 
-The proved entry beside an independent implementation in ordinary Rust (`compare/`), both called in the same process on the same sheets, in turns. The proved entry is the static library that `rt lib` builds of crate `score_c`.
+The proved entries beside an independent implementation in ordinary Rust (`compare/`), both called in the same process on the same sheets, in turns. The proved entries are the static library that `rt lib` builds of crate `score_c`.
 
 - Proved and built with `{kit}`.
 - Machine: {machine}. Date: {date}.
 - Rerun: `compare/run` from the root of the repository; `compare/run --write` renews this page.
-- Times are microseconds of processor time a sheet for the whole call, from bytes to report (medians of {ROUNDS} rounds); \"/s\" is families a second. The ratio is the proved entry's time over Rust's, as the median of the rounds' ratios with the least and the greatest; below 1 the proved entry is faster.
+- Times are microseconds of processor time a sheet for the whole call, from bytes to report (medians of {ROUNDS} rounds); \"/s\" is families a second. The ratio is the time of the second column over that of the first, so the proved entry's over Rust's, as the median of the rounds' ratios with the least and the greatest; below 1 the second is faster.
 - \"Most trials\" is the largest search that refusal 10 leaves room for at n = 127: 31 reticulations in components of 8, 8, 8 and 7, so 896 trials.
-- The static library exports the whole call only. For the whole-network table the call on a network without reticulations stands for it; the last two lines time the table alone on the Rust side.
-- Before the times were taken, {} sheets were compared in answer, result, scratch and untouched rest ({} scored, {} of these also by enumerating {} settings in all); mismatches: {}.
+- The static library exports whole calls only. For the whole-network table the call on a network without reticulations stands for it; the two lines \"table alone\" time the table on the Rust side.
+- Below the plain call stands the one that takes the gene tree as Newick text: against the plain call on the same families with their gene lines, both proved, where the bar is a ratio of 1.10; against the Newick call in Rust; and on texts whose only fault is their last byte, with what each further byte costs from one length to the next. That is the same from each length to the next where reading is linear in the text.
+- Before the times were taken, {} calls were compared in answer, result, scratch and untouched rest ({} scored, {} of these also by enumerating {} settings in all; {} took Newick text, and {} of these, wherever sheet and text can be read, were also compared with the plain call on the sheet with the gene lines written out); mismatches: {}.
 
 ```text
 {table}```
 {earlier}",
-        tally.sheets, tally.reports, tally.enumerated, tally.settings_enumerated, tally.mismatches
+        tally.calls(),
+        tally.reports(),
+        tally.enumerated,
+        tally.settings_enumerated,
+        tally.newick.calls,
+        tally.written_out,
+        tally.mismatches
     )
 }

@@ -1,29 +1,84 @@
 //! Sheets that are to be refused: one kind of damage for each refusal number, and damage without aim.
 
-use crate::families::{self, Family, Growth, NetworkPlan, push_line};
+use crate::calls::Call;
+use crate::families::{self, Family, GeneShape, Growth, NetworkPlan, push_line};
 use crate::random::Random;
+use crate::trees;
 
 /// A text damaged so that refusal `number` (3 to 13) may come first. It need not: another may come
 /// before it, or the damage may be none.
 pub fn aimed(random: &mut Random, number: u32) -> Vec<u8> {
-    let mut family = match number {
+    let mut family = begun(random, number);
+    if number > 5 {
+        numbers(random, number, &mut family);
+        return family.text();
+    }
+    let text = family.text();
+    match number {
+        3 => header(random, text),
+        4 => limits(random, family.header(), text),
+        _ => lines(random, text, family.genes.len()),
+    }
+}
+
+/// The same of a sheet without gene lines (3 to 11, 13 to 15), with the tree of its family, which is damaged or too large as often as sound,
+/// and is so always where the number asks for it.
+pub fn aimed_newick(random: &mut Random, number: u32) -> Call {
+    let mut family = begun(random, number);
+    numbers(random, number, &mut family);
+    let text = family.text_without_genes();
+    let [n, _, costs @ ..] = family.header();
+    let sheet = match number {
+        3 => header(random, text),
+        4 if random.once_in(2) => genes_counted(random, family.header(), text),
+        4 => limits(random, [n, 1, costs[0], costs[1], costs[2]], text),
+        5 if random.once_in(4) => genes_left_in(random, &family, text),
+        5 => lines(random, text, 0),
+        _ => text,
+    };
+    let sound = trees::text(&family.genes);
+    let kind = random.below(4);
+    let tree = match (number, kind) {
+        (14, _) | (3..=13, 0) => trees::damaged(random, sound.into()),
+        (15, _) | (3..=13, 1) => large_tree(random, &family.species()),
+        _ => sound.into(),
+    };
+    Call::newick(sheet, tree)
+}
+
+/// A family that damage with a view to a refusal begins with.
+fn begun(random: &mut Random, number: u32) -> Family {
+    match number {
         10 => grown(random, 8, true),
         11 => grown(random, 16, false),
         _ => families::any(random, 20, 16),
-    };
+    }
+}
+
+/// Numbers of the family damaged with a view to a refusal from 6 on.
+fn numbers(random: &mut Random, number: u32, family: &mut Family) {
     match number {
-        3 => return header(random, family.text()),
-        4 => return limits(random, &family),
-        5 => return lines(random, &family),
-        6 => parents(random, &mut family),
-        7 => stamps(random, &mut family),
-        8 => shape(random, &mut family),
-        9 => species(random, &mut family),
-        12 => gene_parents(random, &mut family),
-        13 => gene_species(random, &mut family),
+        6 => parents(random, family),
+        7 => stamps(random, family),
+        8 => shape(random, family),
+        9 => species(random, family),
+        12 => gene_parents(random, family),
+        13 => gene_species(random, family),
         _ => {}
     }
-    family.text()
+}
+
+/// A tree of 65 leaves and more, or one whose text is too long; some of them break off.
+fn large_tree(random: &mut Random, species: &[u32]) -> Vec<u8> {
+    let leaves = random.within(64, 150);
+    let shape = *random.pick(&[GeneShape::Caterpillar, GeneShape::Balanced, GeneShape::Anyhow]);
+    let one_digit = [1, 2, 3];
+    let named = if species.is_empty() || random.once_in(2) { &one_digit } else { species };
+    let mut tree = trees::text(&families::gene_tree(random, leaves, shape, named)).into_bytes();
+    if random.once_in(4) {
+        tree.truncate(random.below(tree.len()));
+    }
+    tree
 }
 
 /// A network of many transfers, of 9 and more in a component or with reticulations alone below a node.
@@ -55,23 +110,36 @@ fn header(random: &mut Random, mut text: Vec<u8>) -> Vec<u8> {
     text
 }
 
-fn limits(random: &mut Random, family: &Family) -> Vec<u8> {
-    let [d, t, l] = family.costs;
-    let mut numbers = [family.nodes.len() as u32, family.genes.len() as u32, d, t, l];
+fn limits(random: &mut Random, mut numbers: [u32; 5], text: Vec<u8>) -> Vec<u8> {
     let which = random.below(5);
     numbers[which] = *random.pick(if which < 2 {
         &[0, 128, 129, 255, 256, 999_999]
     } else {
         &[100, 101, 128, 256, 999_999]
     });
-    let mut text = Vec::new();
-    push_line(&mut text, numbers);
-    text.extend_from_slice(&family.text()[31..]);
-    text
+    with_header(numbers, &text)
 }
 
-fn lines(random: &mut Random, family: &Family) -> Vec<u8> {
-    let mut text = family.text();
+/// The header counts genes, where the tree is to count them.
+fn genes_counted(random: &mut Random, mut numbers: [u32; 5], text: Vec<u8>) -> Vec<u8> {
+    numbers[1] = *random.pick(&[numbers[1], 0, 2, 3, 127, 128, 257, 999_999]);
+    with_header(numbers, &text)
+}
+
+fn with_header(numbers: [u32; 5], text: &[u8]) -> Vec<u8> {
+    let mut header = Vec::new();
+    push_line(&mut header, numbers);
+    [&header, &text[31..]].concat()
+}
+
+/// Some gene lines of the family behind its network lines, one where the header's m would count it.
+fn genes_left_in(random: &mut Random, family: &Family, text: Vec<u8>) -> Vec<u8> {
+    let whole = family.text();
+    let genes = *random.pick(&[1, 1, family.genes.len()]);
+    [&text, &whole[text.len()..][..31 * genes]].concat()
+}
+
+fn lines(random: &mut Random, mut text: Vec<u8>, genes: usize) -> Vec<u8> {
     let later = text.len() / 31 - 1;
     let start = 31 * random.within(1, later);
     match random.below(8) {
@@ -80,9 +148,9 @@ fn lines(random: &mut Random, family: &Family) -> Vec<u8> {
         2 => text[start + random.below(30)] = *random.pick(BAD_BYTES),
         3 => text[start + 30] = *random.pick(b" 0\r\0"),
         4 => text[start + 5] = b'0' + random.below(10) as u8,
-        5 => {
+        5 if genes > 0 => {
             // A gene line's fourth or fifth field.
-            let gene = 31 * (1 + family.nodes.len() + random.below(family.genes.len()));
+            let gene = 31 * (1 + later - genes + random.below(genes));
             text[gene + *random.pick(&[23, 29])] = b'1' + random.below(9) as u8;
         }
         6 => {

@@ -1,6 +1,8 @@
 //! Random families: networks grown forward in time, gene trees of many shapes, as numbers and as text.
 
 use crate::random::Random;
+pub use crate::reference::sheet::Gene;
+use crate::reference::sheet::Sheet;
 
 /// The numbers of a sheet, before they are written. Node v is `nodes[v - 1]`, gene g is `genes[g - 1]`.
 #[derive(Clone)]
@@ -18,17 +20,15 @@ pub struct Node {
     pub species: u32,
 }
 
-#[derive(Clone, Copy, Default)]
-pub struct Gene {
-    pub parent: u32,
-    pub species: u32,
-}
-
 impl Family {
+    pub fn header(&self) -> [u32; 5] {
+        let [d, t, l] = self.costs;
+        [self.nodes.len() as u32, self.genes.len() as u32, d, t, l]
+    }
+
     pub fn text(&self) -> Vec<u8> {
         let mut text = Vec::with_capacity(31 * (1 + self.nodes.len() + self.genes.len()));
-        let [d, t, l] = self.costs;
-        push_line(&mut text, [self.nodes.len() as u32, self.genes.len() as u32, d, t, l]);
+        push_line(&mut text, self.header());
         for (v, node) in (1..).zip(&self.nodes) {
             push_line(&mut text, [v, node.principal, node.secondary, node.stamp, node.species]);
         }
@@ -38,8 +38,33 @@ impl Family {
         text
     }
 
+    /// The sheet of the call that takes the gene tree as a text: its header's m is 1, and it has no gene lines.
+    pub fn text_without_genes(&self) -> Vec<u8> {
+        let mut text = Family { genes: vec![Gene::default()], ..self.clone() }.text();
+        text.truncate(31 * (1 + self.nodes.len()));
+        text
+    }
+
     pub fn species(&self) -> Vec<u32> {
         self.nodes.iter().map(|node| node.species).filter(|&species| species != 0).collect()
+    }
+}
+
+/// The family of a sheet that was read.
+impl From<&Sheet> for Family {
+    fn from(sheet: &Sheet) -> Family {
+        let node = |v: usize| Node {
+            principal: sheet.principal[v],
+            secondary: sheet.secondary[v],
+            stamp: sheet.stamp[v],
+            species: sheet.species[v],
+        };
+        let gene = |g: usize| Gene { parent: sheet.gene_parent[g], species: sheet.gene_species[g] };
+        Family {
+            costs: [sheet.duplication, sheet.transfer, sheet.loss],
+            nodes: (1..=sheet.n).map(node).collect(),
+            genes: (1..=sheet.m).map(gene).collect(),
+        }
     }
 }
 

@@ -1,17 +1,19 @@
 //! Sheets whose outcomes were worked out by hand, as far as the lines beside them say. They come first in the
 //! input of the test program `score_test`.
 
+use crate::calls::Call;
 use crate::families::push_line;
+use crate::outcome::Outcome;
 use crate::reference::whole::NO_HISTORY;
 
 /// The five numbers of a line.
 pub type Line = [u32; 5];
 
-/// A sheet and what was worked out of its outcome.
+/// A call and what was worked out of its outcome.
 pub struct Worked {
-    /// The name of its file.
+    /// The name of its files.
     pub name: String,
-    pub sheet: Vec<u8>,
+    pub call: Call,
     /// The first lines of the report, or the refusal's number alone. A field that was not worked out is `*`.
     pub lines: Vec<&'static str>,
     /// The words of the whole-network table, if they were worked out.
@@ -22,7 +24,11 @@ pub struct Worked {
 
 impl Worked {
     fn new(name: &str, sheet: Vec<u8>, lines: &[&'static str]) -> Worked {
-        Worked { name: name.to_string(), sheet, lines: lines.to_vec(), table: None, cheapest: None }
+        Worked::of(name, Call::plain(sheet), lines)
+    }
+
+    pub fn of(name: &str, call: Call, lines: &[&'static str]) -> Worked {
+        Worked { name: name.to_string(), call, lines: lines.to_vec(), table: None, cheapest: None }
     }
 
     fn table(self, words: &[u32]) -> Worked {
@@ -31,6 +37,20 @@ impl Worked {
 
     fn cheapest(self, settings: usize) -> Worked {
         Worked { cheapest: Some(settings), ..self }
+    }
+
+    /// The outcome of the call, which has to be as worked out.
+    pub fn outcome(&self) -> Outcome {
+        let outcome = Outcome::of(&self.call);
+        assert!(self.fits(&outcome.text), "{}: {:?}\nfound:\n{}", self.name, self.lines, outcome.text);
+        if let Some(table) = &self.table {
+            let scratch = outcome.scratch.as_ref().expect("a scored sheet");
+            assert_eq!(scratch[..table.len()], table[..]);
+        }
+        if let Some(cheapest) = self.cheapest {
+            assert_eq!(outcome.settled.as_ref().map(|settled| settled.cheapest), Some(cheapest));
+        }
+        outcome
     }
 
     /// Whether a report, or a refusal's line, has the lines worked out here.

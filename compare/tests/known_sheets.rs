@@ -3,6 +3,7 @@
 use std::fs;
 use std::path::Path;
 
+use compare::calls::Call;
 use compare::reference::sheet::Sheet;
 use compare::reference::{self, RESULT_BYTES, SCRATCH_WORDS};
 use compare::worked::{self, K_GENES, K_NETWORK};
@@ -46,7 +47,10 @@ fn k(costs: [u32; 3]) -> String {
 #[test]
 fn sheets_worked_out_by_hand() {
     for worked in worked::sheets() {
-        let outcome = answer(&worked.sheet).unwrap_or_else(|refusal| refusal.to_string());
+        let Call::Plain(sheet) = &worked.call else {
+            unreachable!("{}: a sheet alone", worked.name);
+        };
+        let outcome = answer(sheet).unwrap_or_else(|refusal| refusal.to_string());
         assert!(worked.fits(&outcome), "worked out: {:?}\nfound:\n{outcome}", worked.lines);
     }
 }

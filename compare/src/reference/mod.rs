@@ -2,6 +2,7 @@
 
 pub mod genes;
 pub mod network;
+pub mod newick;
 pub mod report;
 pub mod search;
 pub mod sheet;
@@ -32,6 +33,8 @@ pub enum Refusal {
     LargeComponent = 11,
     GeneTree = 12,
     GeneSpecies = 13,
+    TreeForm = 14,
+    TreeSize = 15,
 }
 
 #[derive(Clone, Copy, PartialEq, Eq, Debug)]
@@ -53,26 +56,55 @@ impl Answer {
 
 /// Scores one family sheet. On a refusal neither `result` nor `scratch` is touched.
 pub fn score(text: &[u8], result: &mut [u8], scratch: &mut [u32]) -> Answer {
-    if scratch.len() < SCRATCH_WORDS {
-        return Answer::Refused(Refusal::ShortScratch);
-    }
-    if result.len() < RESULT_BYTES {
-        return Answer::Refused(Refusal::ShortResult);
-    }
-    match judge(text) {
+    match lent(result, scratch).and_then(|()| judge(text)) {
         Err(refusal) => Answer::Refused(refusal),
-        Ok((sheet, network, genes)) => {
-            let outcome = search::run(&sheet, &network, &genes);
-            let whole_cost = whole::fill(&sheet, &network, &genes, scratch);
-            Answer::Report(report::write(&network, &genes, &outcome, whole_cost, result))
-        }
+        Ok(judged) => write(&judged, result, scratch),
     }
 }
 
+/// Scores a sheet without gene lines with the gene tree of a Newick text. On a refusal neither `result` nor
+/// `scratch` is touched.
+pub fn score_newick(text: &[u8], tree: &[u8], result: &mut [u8], scratch: &mut [u32]) -> Answer {
+    match lent(result, scratch).and_then(|()| judge_newick(text, tree)) {
+        Err(refusal) => Answer::Refused(refusal),
+        Ok(judged) => write(&judged, result, scratch),
+    }
+}
+
+/// All that scoring needs of a family to which no refusal applies.
+pub type Judged = (Sheet, Network, GeneTree);
+
+/// Refusals 1 and 2.
+fn lent(result: &[u8], scratch: &[u32]) -> Result<(), Refusal> {
+    if scratch.len() < SCRATCH_WORDS {
+        return Err(Refusal::ShortScratch);
+    }
+    if result.len() < RESULT_BYTES {
+        return Err(Refusal::ShortResult);
+    }
+    Ok(())
+}
+
+/// The search, the whole-network table and the report.
+fn write((sheet, network, genes): &Judged, result: &mut [u8], scratch: &mut [u32]) -> Answer {
+    let outcome = search::run(sheet, network, genes);
+    let whole_cost = whole::fill(sheet, network, genes, scratch);
+    Answer::Report(report::write(network, genes, &outcome, whole_cost, result))
+}
+
 /// Refusals 3 to 13 in their order, or all that scoring needs.
-pub fn judge(text: &[u8]) -> Result<(Sheet, Network, GeneTree), Refusal> {
+pub fn judge(text: &[u8]) -> Result<Judged, Refusal> {
     let sheet = Sheet::read(text)?;
     let network = Network::check(&sheet)?;
+    let genes = GeneTree::check(&sheet, &network)?;
+    Ok((sheet, network, genes))
+}
+
+/// Refusals 3 to 11, then 14, 15 and 13, or all that scoring needs. The tree of a text never gives 12.
+pub fn judge_newick(text: &[u8], tree: &[u8]) -> Result<Judged, Refusal> {
+    let mut sheet = Sheet::read_without_genes(text)?;
+    let network = Network::check(&sheet)?;
+    sheet.enter(&newick::read(tree)?);
     let genes = GeneTree::check(&sheet, &network)?;
     Ok((sheet, network, genes))
 }

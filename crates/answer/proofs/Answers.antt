@@ -13,7 +13,7 @@ use Rattle.family.specs.inner.Stages.{Written}
 use Rattle.std.specs.Prelude.{Result, Ok, Err}
 use Rattle.refusals.specs.declared.Refusal.{Refusal as Reason}
 use Rattle.refusals.specs.Numbers.{number, refused}
-use Rattle.refusals.proofs.Numbers.{some}
+use Rattle.refusals.proofs.Numbers.{some, is_refusal}
 use Rattle.answer.specs.Outcome.{number_of, result_by, scratch_by, Outcome, IsReport, Says, Promise}
 
 -- what the promise says of an answer in hand
@@ -66,3 +66,11 @@ refuses q x X d u e = let z : q ≢ 0 = λ w. omega (arith, some x) in record {
 pub reports : (q : ℕ) (X : Contents) (d e u t : List ℕ) (r : ℕ) → q ≡ 0 → Written X d e u t r → Outcome q X d e u t (Ok r)
 unfolding result_by scratch_by same
 reports q X d e u t r z w = rw z (record { refusal = refl; report = λ _. ap Ok w.bytes; result = w.result; scratch = w.scratch })
+
+-- the promise settles the answer and both buffers: two calls from the same buffers, with the same refusals and contents, come to the same
+pub settled : {n : ℕ} {rs : List Refusal} {X : Contents} {d e u t e' t' : List ℕ} {r r' : Result ℕ Reason} → Promise n rs X d e u t r → Promise n rs X d e' u t' r' → (r ≡ r') × (e ≡ e') × (t ≡ t')
+settled {n} {rs} {X} {d} {e} {u} {t} {e'} {t'} {r} {r'} p q = (go r refl, p.outcome.result ∙ sym q.outcome.result, p.outcome.scratch ∙ sym q.outcome.scratch)
+  where
+    go : (a : Result ℕ Reason) → r ≡ a → r ≡ r'
+    go (Ok b) z = p.outcome.report (verdict_report p z) ∙ sym (q.outcome.report (verdict_report p z))
+    go (Err x) z = z ∙ sym (is_refusal r' x (q.outcome.refusal ∙ verdict_refused p z))

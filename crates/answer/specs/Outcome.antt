@@ -1,4 +1,4 @@
--- What a call that scores a family answers and leaves (01, "Refusals"), by its refusals in the order of checking, the last of their numbers, and the
+-- What a call that scores a family answers and leaves (01, "Refusals"), by its refusals in the order of checking, the greatest of their numbers, and the
 -- contents that it scores where none of them applies; and the promise of such a call, part by part.
 -- Assumes nothing.
 use Rattle.std.specs.Prelude.{◌≡◌, cond, List, ◌++◌, ℕ, ◌*◌, ◌≤◌, ◌<◌, length, drop, Result, Ok, Err}

@@ -54,7 +54,8 @@ fn counts(network: SoundNetwork, parts: &mut Parts)
     }
 }
 
-// The parts of a network in which 6, 7 and 8 have passed.
+// The parts of a network in which 6, 7 and 8 have passed. (Inlined, as `sheet::read_lines`.)
+#[inline(always)]
 pub fn part(network: SoundNetwork) -> Parts
     requires { Dated network.lines.now.header.nodes network.lines.now.nodes }
     ensures { Parted (network_of network.entry.lines.now) result }

@@ -33,7 +33,9 @@ fn totals(network: PartedNetwork, found: Found, whole: u32) -> Totals
     }
 }
 
-// Searches, fills the table of the whole network and writes the report of a family that no refusal applies to; returns the bytes of the report.
+// Searches, fills the table of the whole network and writes the report of a family that no refusal applies to; returns the bytes of the report. (Inlined, as
+// `sheet::read_lines`: the tables of the search share their room with those of the lines.)
+#[inline(always)]
 pub fn write(network: PartedNetwork, res: &mut [u8], scratch: &mut [u32]) -> usize
     requires { Sized network.lines.now.header (length res.old) (length scratch.old) × Passed (contents_by network.lines.now) }
     ensures { Written (contents_by network.entry.lines.now) res.old res.new scratch.old scratch.new result }

@@ -91,6 +91,12 @@ verdict_second (r ∷ rs) ss (one_more t ts) e = by_bool r.test
     (λ y. absurd (t.some (sym (verdict_here r rs y) ∙ e)))
     (λ f. verdict_later r (rs ++ ss) f ∙ verdict_second rs ss (ts f) (sym (verdict_later r rs f) ∙ e))
 
+-- it goes by the second's verdict alone
+pub verdict_tail : (rs ss ts : List Refusal) → verdict ss ≡ verdict ts → verdict (rs ++ ss) ≡ verdict (rs ++ ts)
+unfolding verdict
+verdict_tail [] ss ts e = e
+verdict_tail (r ∷ rs) ss ts e = rw (verdict_tail rs ss ts e)
+
 -- where none of two lists applies, none of either does
 pub both_none : (rs ss : List Refusal) → AllTell rs → verdict (rs ++ ss) ≡ 0 → (verdict rs ≡ 0) × (verdict ss ≡ 0)
 both_none rs ss t e = by_eq (verdict rs) 0
@@ -117,3 +123,15 @@ pub verdict_low : (k : ℕ) (rs : List Refusal) → Low k rs → verdict rs ≤ 
 unfolding verdict Low
 verdict_low k [] l = omega arith
 verdict_low k (r ∷ rs) (a, l) = by_bool r.test (λ t. rw t a) (λ t. rw t (verdict_low k rs l))
+
+-- refusals of which none with the number k applies do not have it for a verdict
+unfoldable pub Idle : ℕ → List Refusal → Type 0
+Idle k [] = Unit {0}
+Idle k (r ∷ rs) = (r.number ≡ k → r.test ≡ false) × Idle k rs
+
+pub verdict_idle : (k : ℕ) (rs : List Refusal) → Idle k rs → k ≢ 0 → verdict rs ≢ k
+unfolding verdict Idle
+verdict_idle k [] i d e = d (sym e)
+verdict_idle k (r ∷ rs) (a, i) d e = by_bool r.test
+    (λ t. clash t (a (sym (verdict_here r rs t) ∙ e)))
+    (λ f. verdict_idle k rs i d (sym (verdict_later r rs f) ∙ e))

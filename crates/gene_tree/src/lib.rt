@@ -34,8 +34,9 @@ pub fn verdict(lines: &Lines) -> Result<(), Refusal>
     Ok(())
 }
 
-// The gene tree of the lines; a leaf gene sits at the node that bears its species.
+// The gene tree of the lines; a leaf gene sits at the node that bears its species. (Inlined, as `sheet::read_lines`.)
 #[tactic(auto, unfolding(finite::specs::Tables::zeros))]
+#[inline(always)]
 pub fn build(lines: &Lines) -> Genes
     ensures { gene_tree lines.now.header.genes result ≡ gene_tree_of (nodes_of lines.now) (genes_of lines.now) }
 {

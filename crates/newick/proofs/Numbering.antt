@@ -1,10 +1,10 @@
 -- The genes of a subtree have the numbers from its first one on, without a gap, and no gene behind them has a parent among them. So a gene's parent is
 -- below it, a leaf has no child, and a pair has its two members for children: 12 never applies, and the gene lines describe the tree that they are of.
 -- Assumes nothing.
-use Rattle.std.proofs.Common.{ℕ, suc, ◌+◌, ◌≤◌, ◌<◌, ◌≡◌, ◌≢◌, ◌⊎◌, inl, inr, ⊎_elim, false, cond, ◌++◌, length, get_or, refl, sym, ap, ◌∙◌, arith, get_or-append-add}
+use Rattle.std.proofs.Common.{ℕ, suc, ◌+◌, ◌≤◌, ◌<◌, ◌≡◌, ◌≢◌, ◌⊎◌, inl, inr, ⊎_elim, false, cond, List, ◌++◌, length, get_or, Option, Some, None, refl, sym, ap, ◌∙◌, arith, get_or-append-add}
 use Rattle.std.proofs.Math.ListN.{get_or-append}
 use Rattle.finite.specs.Tests.{same}
-use Rattle.finite.specs.Range.{children}
+use Rattle.finite.specs.Range.{any, children}
 use Rattle.finite.proofs.Cases.{by_bool, by_eq, by_less}
 use Rattle.finite.proofs.Tests.{is_same, not_same, same_is}
 use Rattle.finite.proofs.Count.{count_zero, count_alone, children_change}
@@ -13,6 +13,7 @@ use Rattle.gene_tree.specs.Refusals.{child_count, refusal12, Refusal12}
 use Rattle.gene_tree.specs.Refusals.Refusal12.{first_has_parent, no_parent, parent_not_below, children_amiss}
 use Rattle.gene_tree.proofs.Refusals.{from_12}
 use Rattle.newick.specs.Trees.{Tree, leaf, pair, GeneLine, genes, lines_from, no_line, line_at, gene_lines_of}
+use Rattle.newick.specs.Reading.{Found, tree_at, lines_found, lines_read}
 use Rattle.newick.specs.Numbering.{Numbered, PairGene, Describes}
 use Rattle.newick.proofs.Writing.{some_gene, length_lines}
 
@@ -214,3 +215,14 @@ module _ (t : Tree) where
 
   pub passes_12 : refusal12 K ≡ false
   passes_12 = by_bool (refusal12 K) (λ y. absurd (no_refusal12 (from_12 K y))) (λ y. y)
+
+-- so 12 never applies to what is read from a text
+module _ (text : List ℕ) where
+  found_12 : (f : Option Found) → refusal12 (lines_found f) ≡ false
+  unfolding lines_found refusal12 any
+  found_12 None = refl
+  found_12 (Some f) = passes_12 f.tree
+
+  pub read_12 : refusal12 (lines_read text) ≡ false
+  unfolding lines_read
+  read_12 = found_12 (tree_at text 0)

@@ -1,14 +1,14 @@
 -- What is found at a place is a tree whose bytes stand there (`sound`), and each such tree that no digit follows is found (`complete`), by induction on
 -- the tree. So a text has one reading: what is found at its start.
 -- Assumes nothing.
-use Rattle.std.proofs.Common.{ℕ, zero, suc, ◌+◌, ◌-◌, ◌≡◌, false, List, [], ◌∷◌, ◌++◌, length, get_or, drop, Option, Some, refl, sym, ap, ◌∙◌, append_assoc, arith, length-append}
+use Rattle.std.proofs.Common.{ℕ, zero, suc, ◌+◌, ◌-◌, ◌*◌, ◌≤◌, ◌≡◌, false, List, [], ◌∷◌, ◌++◌, length, get_or, drop, Option, Some, refl, sym, ap, ◌∙◌, append_assoc, arith, length-append}
 use Rattle.finite.specs.Tests.{same}
 use Rattle.finite.proofs.Tests.{is_same, not_same}
-use Rattle.newick.specs.Trees.{Tree, leaf, pair, spelled, text_of, Proper, HasText}
+use Rattle.newick.specs.Trees.{Tree, leaf, pair, spelled, text_of, Proper, HasText, genes}
 use Rattle.newick.specs.Reading.{byte_at, digit_from, Found, found, leaf_of, closed, paired, tree_in, tree_at, pair_at}
 use Rattle.newick.proofs.Places.{digit_low, digit_less, digit_more, front, past, past_one, opens}
 use Rattle.newick.proofs.Trees.{by_tree, tree_eq}
-use Rattle.newick.proofs.Numerals.{leaf_sound, leaf_complete, numeral_of}
+use Rattle.newick.proofs.Numerals.{leaf_sound, leaf_complete, numeral_of, numeral_short}
 
 -- a tree whose text stands at a place
 pub record Stands (text : List ℕ) (at : ℕ) (t : Tree) (next : ℕ) : Type 0 where
@@ -81,3 +81,12 @@ one_tree text t t' w w' = one_reading t t' w.proper w'.proper (sym w.text_is ∙
 pub length_text : (t : Tree) → length (text_of t) ≡ length (spelled t) + 1
 unfolding text_of
 length_text t = length-append (spelled t) (59 ∷ [])
+
+-- so many as 02 has for the longest text: no tree with at most 127 genes has a longer one
+length_spelled : (t : Tree) → length (spelled t) + length (spelled t) ≤ 9 * genes t + 3
+unfolding spelled genes
+length_spelled (leaf s) = omega (arith, numeral_short s)
+length_spelled (pair l r) = rw (length-append, length-append) (omega (arith, length_spelled l, length_spelled r))
+
+pub text_short : (t : Tree) → genes t ≤ 127 → length (text_of t) ≤ 574
+text_short t few = omega (arith, length_text t, length_spelled t)

@@ -3,13 +3,14 @@
 use Rattle.std.specs.Prelude.{ℕ, ◌≤◌, ◌<◌, ◌≡◌, ◌⊎◌, List, [], ◌∷◌, length, Result, Ok, Err}
 use Rattle.finite.specs.Tests.{same}
 use Rattle.finite.specs.Tables.{at}
-use Rattle.finite.specs.Refusals.{Refusal}
+use Rattle.finite.specs.Refusals.{Refusal as Check}
+use Rattle.refusals.specs.declared.Refusal.{Refusal}
+use Rattle.refusals.specs.declared.Refusal.TheVariants.{OutsideGrammar, LargeGeneTree}
+use Rattle.refusals.specs.Numbers.{refused}
 use Rattle.layout.specs.Lines.{genes_in}
 use Rattle.layout.specs.declared.lines.GeneColumns.{GeneColumns}
 use Rattle.newick.specs.Trees.{Tree, GeneLine, HasText, OfGrammar, genes, gene_lines_of}
 use Rattle.newick.specs.Reading.{answer_of}
-use Rattle.newick.specs.declared.Unreadable.{Unreadable}
-use Rattle.newick.specs.declared.Unreadable.TheVariants.{Outside, Long, Many}
 
 -- "the number of genes read": a text that is taken, of m genes
 pub record Taken (text : List ℕ) (m : ℕ) : Type 0 where
@@ -29,25 +30,15 @@ pub data Refusal15 (text : List ℕ) : Type 0 where
   longer : 574 < length text → Refusal15 text
   many : (t : Tree) → HasText text t → 127 < genes t → Refusal15 text
 
--- a text with more than 127 genes that is not longer
-pub record TooMany (text : List ℕ) : Type 0 where
-  pub short : length text ≤ 574
-  pub tree : Tree
-  pub has_text : HasText text tree
-  pub many : 127 < genes tree
-
--- the refusal of each answer, 0 for none
-unfoldable pub refusal_of : Result ℕ Unreadable → ℕ
-refusal_of (Ok m) = 0
-refusal_of (Err Outside) = 14
-refusal_of (Err Long) = 15
-refusal_of (Err Many) = 15
-
 -- the refusals of a text in the order of checking
-unfoldable pub text_refusals : List ℕ → List Refusal
-text_refusals text =
-    record { number = 14; test = same (refusal_of (answer_of text)) 14; condition = Refusal14 text }
-    ∷ record { number = 15; test = same (refusal_of (answer_of text)) 15; condition = Refusal15 text } ∷ []
+unfoldable pub tree_refusals : List ℕ → List Check
+tree_refusals text =
+    record { number = 14; test = same (refused (answer_of text)) 14; condition = Refusal14 text }
+    ∷ record { number = 15; test = same (refused (answer_of text)) 15; condition = Refusal15 text } ∷ []
+
+-- a text is refused by one of them
+abbrev pub Refused : List ℕ → Refusal → Type 0
+Refused text r = ((r ≡ OutsideGrammar) × Refusal14 text) ⊎ ((r ≡ LargeGeneTree) × Refusal15 text)
 
 -- what the columns of the genes have of gene g
 abbrev pub line_in : GeneColumns → ℕ → GeneLine
@@ -58,15 +49,13 @@ pub record Kept (m : ℕ) (b c : GeneColumns) : Type 0 where
   pub others : (g : ℕ) → (g ≡ 0) ⊎ (m < g) → line_in c g ≡ line_in b g
 
 -- what each case of the answer says of the text, and of the columns of the genes before and after the call: the lines of the genes are those of the tree
--- that the text is of, and nothing else is written
-abbrev pub Says : (text : List ℕ) (before after : GeneColumns) → Result ℕ Unreadable → Type 0
+-- that the text is of, and nothing else is written; after a refusal the entries 1 to 127 are left open
+abbrev pub Says : (text : List ℕ) (before after : GeneColumns) → Result ℕ Refusal → Type 0
 Says text before after (Ok m) = (t : Taken text m) × (genes_in m after ≡ gene_lines_of t.tree) × Kept m before after
-Says text before after (Err Outside) = Refusal14 text × Kept 127 before after
-Says text before after (Err Long) = (574 < length text) × (after ≡ before)
-Says text before after (Err Many) = TooMany text × Kept 127 before after
+Says text before after (Err r) = Refused text r × Kept 127 before after
 
 -- the promise of the reader
-pub record Promise (text : List ℕ) (before after : GeneColumns) (answer : Result ℕ Unreadable) : Type 0 where
+pub record Promise (text : List ℕ) (before after : GeneColumns) (answer : Result ℕ Refusal) : Type 0 where
   pub says : Says text before after answer
   -- the answer as an equation that computes
   pub answer_is : answer ≡ answer_of text

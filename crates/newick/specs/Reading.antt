@@ -2,10 +2,11 @@
 -- Assumes nothing.
 use Rattle.std.specs.Prelude.{ℕ, zero, suc, ◌+◌, ◌-◌, ◌*◌, Bool, cond, ◌&&◌, List, length, get_or, Option, Some, None, Result, Ok, Err}
 use Rattle.finite.specs.Tests.{same, under}
-use Rattle.newick.specs.Trees.{Tree, leaf, pair, genes}
+use Rattle.topology.specs.Lines.{GeneLines}
+use Rattle.newick.specs.Trees.{Tree, leaf, pair, genes, gene_lines_of}
 use Rattle.newick.specs.declared.Numeral.{Numeral}
-use Rattle.newick.specs.declared.Unreadable.{Unreadable}
-use Rattle.newick.specs.declared.Unreadable.TheVariants.{Outside, Long, Many}
+use Rattle.refusals.specs.declared.Refusal.{Refusal}
+use Rattle.refusals.specs.declared.Refusal.TheVariants.{OutsideGrammar, LargeGeneTree}
 
 abbrev pub byte_at : List ℕ → ℕ → ℕ
 byte_at text at = get_or text at 0
@@ -66,11 +67,20 @@ unfoldable pub pair_at : List ℕ → ℕ → Option Found
 pair_at text at = paired text (λ p. tree_at text p) (tree_at text at)
 
 -- the answer to a text that begins with what was found
-unfoldable pub answer_to : List ℕ → Option Found → Result ℕ Unreadable
-answer_to text None = Err Outside
+unfoldable pub answer_to : List ℕ → Option Found → Result ℕ Refusal
+answer_to text None = Err OutsideGrammar
 answer_to text (Some f) =
-    cond (same (byte_at text f.next) 59 && same (suc f.next) (length text)) (cond (under 127 (genes f.tree)) (Err Many) (Ok (genes f.tree))) (Err Outside)
+    cond (same (byte_at text f.next) 59 && same (suc f.next) (length text)) (cond (under 127 (genes f.tree)) (Err LargeGeneTree) (Ok (genes f.tree))) (Err OutsideGrammar)
 
 -- the answer to a text
-unfoldable pub answer_of : List ℕ → Result ℕ Unreadable
-answer_of text = cond (under 574 (length text)) (Err Long) (answer_to text (tree_at text 0))
+unfoldable pub answer_of : List ℕ → Result ℕ Refusal
+answer_of text = cond (under 574 (length text)) (Err LargeGeneTree) (answer_to text (tree_at text 0))
+
+-- the gene lines of the tree that was found; none where none was
+unfoldable pub lines_found : Option Found → GeneLines
+lines_found None = record { count = 0; parent = λ g. 0; species = λ g. 0 }
+lines_found (Some f) = gene_lines_of f.tree
+
+-- those of the tree that a text begins with
+unfoldable pub lines_read : List ℕ → GeneLines
+lines_read text = lines_found (tree_at text 0)

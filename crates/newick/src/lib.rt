@@ -7,18 +7,11 @@ ghost use Rattle.newick.specs.Answers.{Promise};
 ghost use Rattle.newick.specs.inner.Steps.{digit_at, passed, Whole, entered, Outcome};
 
 use layout::lines::GeneColumns;
+use refusals::Refusal;
 use tables::MOST;
 
 // The longest text of a tree of as many genes as the columns have room for.
-const LONGEST: usize = 574;
-
-// Why a text is not taken: it is outside the grammar, or has too many bytes, or too many genes.
-#[derive(Clone, Copy, PartialEq, Eq, Debug)]
-pub enum Unreadable {
-    Outside,
-    Long,
-    Many,
-}
+pub const LONGEST: usize = 574;
 
 // A species number with the place after it.
 #[derive(Clone, Copy)]
@@ -135,24 +128,24 @@ impl Reader<'_> {
     }
 }
 
-// Reads a whole text, and puts the parents and the species of its genes into their columns.
+// Reads a whole text, and puts the parents and the species of its genes into their columns; 14 or 15 where it is refused.
 #[tactic(auto, using(crate::proofs::Answers::answer_none))]
-pub fn read(text: &[u8], genes: &mut GeneColumns) -> Result<usize, Unreadable>
+pub fn read(text: &[u8], genes: &mut GeneColumns) -> Result<usize, Refusal>
     ensures { Promise text.now genes.old genes.new result }
 {
     if text.len() > LONGEST {
-        return Err(Unreadable::Long);
+        return Err(Refusal::LargeGeneTree);
     }
     let reader = Reader { text };
     let tree = reader
         .tree(Place { at: 0, genes: 0 }, 0, genes)
-        .ok_or(Unreadable::Outside)?;
-    let end = reader.pass(tree, b';').ok_or(Unreadable::Outside)?;
+        .ok_or(Refusal::OutsideGrammar)?;
+    let end = reader.pass(tree, b';').ok_or(Refusal::OutsideGrammar)?;
     if end.at != text.len() {
-        return Err(Unreadable::Outside);
+        return Err(Refusal::OutsideGrammar);
     }
     if end.genes > MOST {
-        return Err(Unreadable::Many);
+        return Err(Refusal::LargeGeneTree);
     }
     Ok(end.genes)
 }

@@ -1,10 +1,10 @@
--- The numbers of the refusals are 1 to 13, so none is 0, which stands for no refusal; and a number tells its refusal.
+-- The numbers of the refusals are 1 to 15, so none is 0, which stands for no refusal; and a number tells its refusal.
 -- Assumes nothing.
 use Rattle.std.proofs.Common.{◌≡◌, ℕ, ◌≤◌, [], ◌∷◌, get_or, arith, sym, ap, ◌∙◌, refl}
 use Rattle.std.specs.Prelude.{Result, Ok, Err}
 use Rattle.std.specs.Result.{IsErrAnd}
 use Rattle.refusals.specs.declared.Refusal.{Refusal}
-use Rattle.refusals.specs.declared.Refusal.TheVariants.{ShortScratch, ShortResult, NoHeader, BeyondLimits, BadLines, BadParents, BadStamps, BadShape, BadSpecies, OnlyReticulations, CrowdedComponent, BadGeneTree, BadGeneSpecies}
+use Rattle.refusals.specs.declared.Refusal.TheVariants.{ShortScratch, ShortResult, NoHeader, BeyondLimits, BadLines, BadParents, BadStamps, BadShape, BadSpecies, OnlyReticulations, CrowdedComponent, BadGeneTree, BadGeneSpecies, OutsideGrammar, LargeGeneTree}
 use Rattle.refusals.specs.Numbers.{number, refused}
 
 pub some : (r : Refusal) → 1 ≤ number r
@@ -21,8 +21,10 @@ some OnlyReticulations = omega arith
 some CrowdedComponent = omega arith
 some BadGeneTree = omega arith
 some BadGeneSpecies = omega arith
+some OutsideGrammar = omega arith
+some LargeGeneTree = omega arith
 
-pub few : (r : Refusal) → number r ≤ 13
+pub few : (r : Refusal) → number r ≤ 15
 few ShortScratch = omega arith
 few ShortResult = omega arith
 few NoHeader = omega arith
@@ -36,10 +38,12 @@ few OnlyReticulations = omega arith
 few CrowdedComponent = omega arith
 few BadGeneTree = omega arith
 few BadGeneSpecies = omega arith
+few OutsideGrammar = omega arith
+few LargeGeneTree = omega arith
 
 -- a number tells its refusal
 with_number : ℕ → Refusal
-with_number k = get_or {A = Refusal} (ShortScratch ∷ ShortScratch ∷ ShortResult ∷ NoHeader ∷ BeyondLimits ∷ BadLines ∷ BadParents ∷ BadStamps ∷ BadShape ∷ BadSpecies ∷ OnlyReticulations ∷ CrowdedComponent ∷ BadGeneTree ∷ BadGeneSpecies ∷ []) k ShortScratch
+with_number k = get_or {A = Refusal} (ShortScratch ∷ ShortScratch ∷ ShortResult ∷ NoHeader ∷ BeyondLimits ∷ BadLines ∷ BadParents ∷ BadStamps ∷ BadShape ∷ BadSpecies ∷ OnlyReticulations ∷ CrowdedComponent ∷ BadGeneTree ∷ BadGeneSpecies ∷ OutsideGrammar ∷ LargeGeneTree ∷ []) k ShortScratch
 
 told : (r : Refusal) → with_number (number r) ≡ r
 unfolding with_number
@@ -56,6 +60,8 @@ told OnlyReticulations = refl
 told CrowdedComponent = refl
 told BadGeneTree = refl
 told BadGeneSpecies = refl
+told OutsideGrammar = refl
+told LargeGeneTree = refl
 
 one : (r q : Refusal) → number r ≡ number q → r ≡ q
 one r q e = sym (told r) ∙ ap with_number e ∙ told q

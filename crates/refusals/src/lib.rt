@@ -1,4 +1,4 @@
-// Why a sheet is refused, in the order of checking. A refusal has a number, which is what a caller in C and the program's line tell.
+// Why a family is refused, by number; each call says in which order it checks. A refusal's number is what a caller in C and the program's line tell.
 #![tactic(auto)]
 
 ghost use Rattle.std.specs.Prelude.{◌≡◌};
@@ -23,6 +23,9 @@ pub enum Refusal {
     // The gene tree's curator: parents and children, species.
     BadGeneTree = 12,
     BadGeneSpecies = 13,
+    // The gene tree's curator, of a tree as Newick text: outside the grammar; too long, or of too many genes.
+    OutsideGrammar = 14,
+    LargeGeneTree = 15,
 }
 
 impl Refusal {

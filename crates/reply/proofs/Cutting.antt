@@ -1,16 +1,20 @@
 -- Cutting a text behind the room of the longest sheet does not change its reply: its header line stays, and a text that is longer than any sheet is refused
 -- by 3, 4 or 5, before and after.
 -- Assumes nothing.
-use Rattle.std.proofs.Common.{◌≡◌, sym, ◌∙◌, ap, true, false, List, ℕ, ◌*◌, ◌≤◌, ◌<◌, arith, length, take, drop, length-take-le, take-take, take_all}
-use Rattle.finite.proofs.Cases.{by_bool, by_less, clash}
+use Rattle.std.proofs.Common.{◌≡◌, refl, sym, ◌∙◌, ap, Bool, true, false, not, List, ℕ, ◌*◌, ◌≤◌, ◌<◌, arith, length, take, drop, length-take-le, take-take, take_all}
+use Rattle.finite.proofs.Cases.{by_bool, by_less}
 use Rattle.finite.proofs.Tests.{not_same}
 use Rattle.text_lines.specs.Lines.{line_length}
 use Rattle.family.specs.Buffers.{least_words, least_bytes}
-use Rattle.sheet.specs.Sheets.{line_no, Line, refusal3, refusal4, refusal5}
-use Rattle.sheet.proofs.Refusals.{reading_3, reading_4, reading_5, header_line, within_limits}
+use Rattle.family.specs.Families.{Contents}
+use Rattle.layout.specs.declared.Header.{Header}
+use Rattle.sheet.specs.Sheets.{line_no, Line, header_in, limits, whole, refusal3, refusal4, refusal5}
+use Rattle.sheet.proofs.Refusals.{reading_3, header_line, header_same, within_limits}
+use Rattle.score.specs.Contents.{contents_of}
 use Rattle.score.specs.Refusals.{refusal}
 use Rattle.score.proofs.Refusals.{refusal_3, refusal_4, refusal_5}
 use Rattle.reply.specs.Replies.{longest_sheet, reply_of}
+use Rattle.reply.proofs.Replying.{Alike, alike_refused}
 
 -- a text and a front of it that has more bytes than the longest sheet
 module _ (s : List ℕ) (k : ℕ) (long : longest_sheet < k) (more : k < length s) where
@@ -30,55 +34,78 @@ module _ (s : List ℕ) (k : ℕ) (long : longest_sheet < k) (more : k < length 
   from_line : (ns : List ℕ) → Line front 0 ns → Line s 0 ns
   from_line ns l = record { small = l.small; bytes = sym first_line ∙ l.bytes }
 
-  -- 5 applies to both: no sheet is so long
-  too_long : (t : List ℕ) → longest_sheet < length t → refusal3 t ≡ false → refusal4 t ≡ false → refusal5 t ≡ true
-  too_long t l a b =
-      let w = within_limits t b in
-      (reading_5 t a).1 (record {
-        numbers = (line_no t 0).line;
-        line = header_line t a;
-        amiss = λ f. omega (arith, f.total, w.few_nodes, w.few_genes);
-      })
+  pub three_same : refusal3 front ≡ refusal3 s
+  three_same = by_bool (refusal3 s)
+      (λ t. (reading_3 front).1 (λ ns l. (reading_3 s).0 t ns (from_line ns l)) ∙ sym t)
+      (λ f. by_bool (refusal3 front) (λ t. absurd ((reading_3 front).0 t _ (to_line _ (header_line s f)))) (λ e. e) ∙ sym f)
 
-  room : least_bytes ≤ least_bytes
-  room = omega arith
+  -- and so are its numbers, where it is a line
+  pub header_kept : refusal3 s ≡ false → header_in front ≡ header_in s
+  header_kept f = sym (header_same s _ (from_line _ (header_line front (three_same ∙ f))))
 
-  space : least_words ≤ least_words
-  space = omega arith
-
-  by_three : refusal3 s ≡ true → (refusal s least_bytes least_words ≡ 3) × (refusal front least_bytes least_words ≡ 3)
-  by_three t =
-      let n = (reading_3 s).0 t in
-      (refusal_3 s least_bytes least_words space room t, refusal_3 front least_bytes least_words space room ((reading_3 front).1 (λ ns l. n ns (from_line ns l))))
-
-  three_passed : refusal3 s ≡ false → refusal3 front ≡ false
-  three_passed f = by_bool (refusal3 front) (λ t. absurd ((reading_3 front).0 t _ (to_line _ (header_line s f)))) (λ e. e)
-
-  by_four : refusal3 s ≡ false → refusal4 s ≡ true → (refusal s least_bytes least_words ≡ 4) × (refusal front least_bytes least_words ≡ 4)
-  by_four f t =
-      let r = (reading_4 s f).0 t in (
-        refusal_4 s least_bytes least_words space room f t,
-        refusal_4 front least_bytes least_words space room (three_passed f) ((reading_4 front (three_passed f)).1 (record { numbers = r.numbers; line = to_line _ r.line; beyond = r.beyond })),
-      )
-
-  four_passed : refusal3 s ≡ false → refusal4 s ≡ false → refusal4 front ≡ false
-  four_passed f e = by_bool (refusal4 front)
-      (λ t. let r = (reading_4 front (three_passed f)).0 t in
-      clash ((reading_4 s f).1 (record { numbers = r.numbers; line = from_line _ r.line; beyond = r.beyond })) e) (λ q. q)
-
-  by_five : refusal3 s ≡ false → refusal4 s ≡ false → (refusal s least_bytes least_words ≡ 5) × (refusal front least_bytes least_words ≡ 5)
-  by_five f e = (
-    refusal_5 s least_bytes least_words space room f e (too_long s (omega arith) f e),
-    refusal_5 front least_bytes least_words space room (three_passed f) (four_passed f e) (too_long front (omega (arith, front_long)) (three_passed f) (four_passed f e)),
+  pub limits_kept : refusal3 s ≡ false → limits (line_no front 0).line ≡ limits (line_no s 0).line
+  unfolding limits
+  limits_kept f = let e = header_kept f in rw (
+    ap (λ (h : Header). h.nodes) e,
+    ap (λ (h : Header). h.genes) e,
+    ap (λ (h : Header). h.duplication) e,
+    ap (λ (h : Header). h.transfer) e,
+    ap (λ (h : Header). h.loss) e,
   )
 
-  cut_long : reply_of front ≡ reply_of s
-  unfolding reply_of
-  cut_long = by_bool (refusal3 s)
-      (λ t. let q = by_three t in rw (q.0, q.1, not_same {m = 3} {n = 0} (λ z. omega arith)))
-      (λ f. by_bool (refusal4 s)
-      (λ t. let q = by_four f t in rw (q.0, q.1, not_same {m = 4} {n = 0} (λ z. omega arith)))
-      (λ e. let q = by_five f e in rw (q.0, q.1, not_same {m = 5} {n = 0} (λ z. omega arith))))
+-- no sheet is so long
+pub too_long : (t : List ℕ) (n m : ℕ) → longest_sheet < length t → n ≤ 127 → m ≤ 127 → whole t n m ≡ false
+unfolding whole
+too_long t n m l a b = not_same (λ e. omega arith)
+
+-- a verdict whose refusals 3, 4 and 5 are the first that can apply: 4 by the header line, and 5 to every text that is longer than any sheet
+module _ (v : List ℕ → ℕ) (X : List ℕ → Contents) (test4 test5 : List ℕ → Bool)
+    (by_three : (t : List ℕ) → refusal3 t ≡ true → v t ≡ 3)
+    (by_four : (t : List ℕ) → refusal3 t ≡ false → test4 t ≡ true → v t ≡ 4)
+    (by_five : (t : List ℕ) → refusal3 t ≡ false → test4 t ≡ false → test5 t ≡ true → v t ≡ 5)
+    (kept : (s : List ℕ) (k : ℕ) → longest_sheet < k → k < length s → refusal3 s ≡ false → test4 (take k s) ≡ test4 s)
+    (beyond : (t : List ℕ) → longest_sheet < length t → refusal3 t ≡ false → test4 t ≡ false → test5 t ≡ true) where
+  module _ (s : List ℕ) (k : ℕ) (long : longest_sheet < k) (more : k < length s) where
+    abbrev cut_s : List ℕ
+    cut_s = take k s
+
+    three : refusal3 cut_s ≡ refusal3 s
+    three = three_same s k long more
+
+    both : (j : ℕ) → 1 ≤ j → v cut_s ≡ j → v s ≡ j → Alike (v cut_s) (X cut_s) (v s) (X s)
+    both j l a b = alike_refused j (X cut_s) (X s) l a b
+
+    cut_long : Alike (v cut_s) (X cut_s) (v s) (X s)
+    cut_long = by_bool (refusal3 s)
+        (λ t. both 3 (omega arith) (by_three cut_s (three ∙ t)) (by_three s t))
+        (λ f. let four = kept s k long more f in by_bool (test4 s)
+        (λ t. both 4 (omega arith) (by_four cut_s (three ∙ f) (four ∙ t)) (by_four s f t))
+        (λ e. both 5 (omega arith)
+        (by_five cut_s (three ∙ f) (four ∙ e) (beyond cut_s (omega (arith, front_long s k long more)) (three ∙ f) (four ∙ e)))
+        (by_five s f e (beyond s (omega arith) f e))))
+
+  pub cut_by : (s : List ℕ) (k : ℕ) → longest_sheet < k → Alike (v (take k s)) (X (take k s)) (v s) (X s)
+  cut_by s k l = by_less k (length s) (cut_long s k l) (λ u. rw (take_all k s u) (record { verdict = refl; reply = refl }))
+
+-- the plain call's
+room : least_bytes ≤ least_bytes
+room = omega arith
+
+space : least_words ≤ least_words
+space = omega arith
+
+four_kept : (s : List ℕ) (k : ℕ) → longest_sheet < k → k < length s → refusal3 s ≡ false → refusal4 (take k s) ≡ refusal4 s
+unfolding refusal4
+four_kept s k l h f = ap not (limits_kept s k l h f)
+
+five_beyond : (t : List ℕ) → longest_sheet < length t → refusal3 t ≡ false → refusal4 t ≡ false → refusal5 t ≡ true
+unfolding refusal5
+five_beyond t l f e = let w = within_limits t e in rw (too_long t _ _ l w.few_nodes w.few_genes)
 
 pub cut : (s : List ℕ) (k : ℕ) → longest_sheet < k → reply_of (take k s) ≡ reply_of s
-cut s k l = by_less k (length s) (cut_long s k l) (λ u. ap reply_of (take_all k s u))
+unfolding reply_of
+cut s k l = (cut_by (λ s. refusal s least_bytes least_words) contents_of refusal4 refusal5
+    (λ t. refusal_3 t least_bytes least_words space room)
+    (λ t. refusal_4 t least_bytes least_words space room)
+    (λ t. refusal_5 t least_bytes least_words space room)
+    four_kept five_beyond s k l).reply

@@ -1,3 +1,4 @@
 pub mod Told
 pub mod Cutting
 pub mod Replying
+pub mod Replies

@@ -1,66 +1,64 @@
--- What is written is the reply: the answer tells the verdict, so the report or the line of the refusal is the one that the definition chooses; and the
--- text that was read, cut behind the room of the longest sheet, has the same reply as the whole (proofs/Cutting).
+-- What is written for an answer is the reply: the answer tells the verdict, so the report, or the line of the refusal, is the one that the definition chooses.
 -- Assumes nothing.
-use Rattle.std.proofs.Common.{◌≡◌, sym, ◌∙◌, ap, List, ℕ, ◌<◌, arith, length, take}
-use Rattle.finite.specs.Refusals as Checks
+use Rattle.std.proofs.Common.{◌≡◌, refl, sym, ◌∙◌, ap, List, ℕ, ◌≤◌, arith, length}
+use Rattle.std.specs.Prelude.{Result, Ok, Err}
+use Rattle.finite.specs.Refusals.{Refusal, verdict}
 use Rattle.finite.proofs.Tests.{is_same, not_same}
 use Rattle.columns.specs.Writing.{written}
 use Rattle.columns.proofs.Writing.{length_written}
 use Rattle.family.specs.Families.{Contents}
 use Rattle.family.specs.Reports.{report_in}
-use Rattle.family.specs.Buffers.{least_words, least_bytes}
-use Rattle.std.specs.Prelude.{Result, Ok, Err}
-use Rattle.refusals.specs.declared.Refusal.{Refusal}
+use Rattle.refusals.specs.declared.Refusal.{Refusal as Reason}
 use Rattle.refusals.specs.Numbers.{number}
-use Rattle.score.specs.Contents.{contents_of}
-use Rattle.score.specs.Refusals.{refusal}
-use Rattle.score.specs.Outcome.{Promise}
-use Rattle.answer.specs.Outcome as Call
-use Rattle.answer.proofs.Answers.{says_of, report_fits, verdict_report, verdict_refused}
+use Rattle.refusals.proofs.Numbers.{some}
+use Rattle.answer.specs.Outcome.{Promise, IsReport, IsRefused}
+use Rattle.answer.proofs.Answers.{report_fits, verdict_report, verdict_refused}
 use Rattle.reply.specs.Refused.{refused_line}
-use Rattle.reply.specs.Replies.{longest_sheet, reply_of, Replied}
-use Rattle.reply.proofs.Cutting.{cut}
+use Rattle.reply.specs.Replies.{reply_by, Writes}
+use Rattle.reply.specs.inner.Told.{told_in, told_bytes}
 use Rattle.reply.proofs.Told.{length_line}
 
-module _ (text : List ℕ) (bytes : ℕ) (d e u t : List ℕ) (r : Result ℕ Refusal) (long : longest_sheet < length text) (ld : length d ≡ least_bytes) (lu : length u ≡ least_words)
-    (p : Promise (take bytes text) d e u t r) where
-  abbrev s : List ℕ
-  s = take bytes text
+-- the reply of a verdict
+pub report_reply : (X : Contents) {k : ℕ} → k ≡ 0 → reply_by k X ≡ report_in X
+unfolding reply_by
+report_reply X z = rw (is_same z)
 
-  same_reply : (w : List ℕ) → take (length text) w ≡ s → reply_of s ≡ reply_of w
-  same_reply w q = ap reply_of (sym q) ∙ cut w (length text) long
+pub refused_reply : (X : Contents) {k j : ℕ} → 1 ≤ j → k ≡ j → reply_by k X ≡ refused_line j
+unfolding reply_by
+refused_reply X {k} {j} l e = rw (e, not_same {m = j} {n = 0} (λ z. omega arith))
 
-  report_reply : (b : ℕ) → r ≡ Ok b → reply_of s ≡ report_in (contents_of s)
-  unfolding reply_of refusal
-  report_reply b q = rw (is_same (ap (λ (x : ℕ). refusal s x least_words) (sym ld) ∙ ap (λ (x : ℕ). refusal s (length d) x) (sym lu) ∙ verdict_report p q))
+-- two verdicts, each with what is scored where it is 0, that come to one reply
+pub record Alike (j : ℕ) (X : Contents) (k : ℕ) (Y : Contents) : Type 0 where
+  pub verdict : j ≡ k
+  pub reply : reply_by j X ≡ reply_by k Y
 
-  refused_reply : (x : Refusal) → r ≡ Err x → reply_of s ≡ refused_line (number x)
-  unfolding reply_of refusal
-  refused_reply x q =
-      let v : refusal s least_bytes least_words ≡ number x = ap (λ (x : ℕ). refusal s x least_words) (sym ld) ∙ ap (λ (x : ℕ). refusal s (length d) x) (sym lu) ∙ verdict_refused p q in
-      let z = (says_of p q).low in
-      rw (v, not_same {m = number x} {n = 0} (λ y. omega arith))
+-- as where both are a refusal, or where one is the other
+pub alike_refused : (i : ℕ) (X Y : Contents) {j k : ℕ} → 1 ≤ i → j ≡ i → k ≡ i → Alike j X k Y
+alike_refused i X Y l a b = record { verdict = a ∙ sym b; reply = refused_reply X l a ∙ sym (refused_reply Y l b) }
 
-  pub replied_report : (b : ℕ) → r ≡ Ok b → Replied text bytes d e b
-  replied_report b q =
-      let i = says_of p q in
-      record {
-        output = λ w h. i.result_written ∙ ap (written d) (sym (report_reply b q) ∙ same_reply w h);
-        length_is = λ w h. i.bytes ∙ ap length (sym (report_reply b q) ∙ same_reply w h);
-        fits = report_fits p q;
-      }
+pub then_alike : {i j k : ℕ} {X Y Z : Contents} → Alike i X j Y → Alike j Y k Z → Alike i X k Z
+then_alike a b = record { verdict = a.verdict ∙ b.verdict; reply = a.reply ∙ b.reply }
 
-  pub replied_refused : (x : Refusal) → r ≡ Err x → (y : List ℕ) → y ≡ written e (refused_line (number x)) → (n : ℕ) → n ≡ 14 → Replied text bytes d y n
-  replied_refused x q y ey n en =
-      let i = says_of p q in
-      let k : ℕ = number x in
-      let f : y ≡ written d (refused_line k) = ey ∙ ap (λ (z : List ℕ). written z (refused_line k)) i.result_kept in
-      record {
-        output = λ w h. f ∙ ap (written d) (sym (refused_reply x q) ∙ same_reply w h);
-        length_is = λ w h. en ∙ sym (length_line k) ∙ ap length (sym (refused_reply x q) ∙ same_reply w h);
-        fits = omega (arith, ap length f, length_written d (refused_line k) (omega (arith, length_line k)), length_line k);
-      }
+-- the promise of any call, of whatever result it was lent
+module _ {n : ℕ} {rs : List Refusal} {X : Contents} {d e u t : List ℕ} where
+  pub writes : (r : Result ℕ Reason) → Promise n rs X d e u t r → Writes (reply_by (verdict rs) X) d (told_in e r) (told_bytes r)
+  writes (Ok b) p =
+      let i : IsReport n rs X d e u t b = p.says in
+      let q = report_reply X (verdict_report p refl) in
+      record { output = i.result_written ∙ ap (written d) (sym q); length_is = i.bytes ∙ ap length (sym q) }
+  writes (Err x) p =
+      let i : IsRefused n rs X d e u t (number x) = p.says in
+      let q = refused_reply X (some x) (verdict_refused p refl) in
+      record { output = ap (λ (z : List ℕ). written z (refused_line (number x))) i.result_kept ∙ ap (written d) (sym q); length_is = ap length (sym q) }
 
--- a refusal leaves the result as long as it was
-pub refusal_keeps : {n : ℕ} {rs : List Checks.Refusal} {X : Contents} {d e u t : List ℕ} {r : Result ℕ Refusal} → Call.Promise n rs X d e u t r → (x : Refusal) → r ≡ Err x → length e ≡ length d
-refusal_keeps p x q = ap length (says_of p q).result_kept
+  -- what is told fits the result, which has room for the line of a refusal before and after the call
+  pub room_kept : (r : Result ℕ Reason) → Promise n rs X d e u t r → 14 ≤ length d → 14 ≤ length e
+  room_kept (Ok b) p l = let i : IsReport n rs X d e u t b = p.says in omega (arith, i.apart, report_fits p refl)
+  room_kept (Err x) p l = let i : IsRefused n rs X d e u t (number x) = p.says in omega (arith, ap length i.result_kept)
+
+  pub told_fits : (r : Result ℕ Reason) → Promise n rs X d e u t r → 14 ≤ length d → told_bytes r ≤ length (told_in e r)
+  told_fits (Ok b) p l = report_fits p refl
+  told_fits (Err x) p l =
+      let line = refused_line (number x) in
+      let h : 14 ≤ length e = room_kept (Err x) p l in
+      omega (arith, length_line (number x), length_written e line (omega (arith, length_line (number x))))

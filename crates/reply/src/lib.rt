@@ -7,7 +7,9 @@ ghost use Rattle.family.specs.Buffers.{least_bytes};
 ghost use Rattle.refusals.specs.Numbers.{number};
 ghost use Rattle.reply.specs.Refused.{refused_line};
 ghost use Rattle.reply.specs.Replies.{longest_sheet, Replied};
+ghost use Rattle.reply.specs.inner.Told.{told_in, told_bytes};
 
+use answer::Answer;
 use columns::WIDTH;
 use refusals::Refusal;
 use tables::MOST;
@@ -32,11 +34,22 @@ fn refused_line(refusal: Refusal) -> [u8; LINE]
 // Writes that line to the front of what is lent, and returns its length.
 fn write_refusal(out: &mut [u8], refusal: Refusal) -> usize
     requires { 14 ≤ length out.old }
-    ensures { (out.new ≡ written out.old (refused_line (number refusal))) × (result ≡ 14) }
+    ensures { (out.new ≡ written out.old (refused_line (number refusal))) × (result ≡ length (refused_line (number refusal))) }
 {
     let line = refused_line(refusal);
     out[..LINE].copy_from_slice(&line);
     LINE
+}
+
+// Tells the answer of a call in the result that it was lent, where a report stands already, and returns how many bytes that is.
+pub fn write_answer(out: &mut [u8], answer: Answer) -> usize
+    requires { 14 ≤ length out.old }
+    ensures { (out.new ≡ told_in out.old answer) × (result ≡ told_bytes answer) }
+{
+    match answer {
+        Ok(bytes) => bytes,
+        Err(refusal) => write_refusal(out, refusal),
+    }
 }
 
 // Writes the report of the sheet that is read into a text, or the line of its refusal, and returns how many bytes that is. The text is lent whole, with
@@ -46,8 +59,6 @@ pub fn reply(text: &[u8], bytes: usize, out: &mut [u8]) -> usize
     ensures { Replied text.now bytes out.old out.new result }
 {
     let mut scratch = [0; score::LEAST_WORDS];
-    match score::score(&text[..bytes], out, &mut scratch) {
-        Ok(length) => length,
-        Err(refusal) => write_refusal(out, refusal),
-    }
+    let answer = score::score(&text[..bytes], out, &mut scratch);
+    write_answer(out, answer)
 }

@@ -1,3 +1,4 @@
+pub mod Curators
 pub mod Refusals
 pub mod Outcomes
 pub mod Promises

@@ -89,7 +89,7 @@ module _ (s : List ℕ) (h : Header) (k : HeaderIs s h) where
   gene_field : (j : ℕ) → within (genes s) (at (filled (genes s) zeros (λ g. cell s (nodes s + g) j))) ≡ within (genes s) (λ g. cell s (nodes s + g) j)
   gene_field j = within_same (genes s) _ _ (λ g a l. filled_in (genes s) zeros (λ w. cell s (nodes s + w) j) g a l (omega (arith, zeros_long, few_genes)))
 
-  nodes_are : nodes_in (nodes s) (node_columns s (nodes s)) ≡ node_lines s
+  pub nodes_are : nodes_in (nodes s) (node_columns s (nodes s)) ≡ node_lines s
   unfolding nodes_in node_columns node_lines
   nodes_are = rw (node_field 1, node_field 2, node_field 3, node_field 4)
 
@@ -97,7 +97,7 @@ module _ (s : List ℕ) (h : Header) (k : HeaderIs s h) where
   unfolding genes_in gene_columns gene_lines
   genes_are = rw (gene_field 1, gene_field 2)
 
-  stamps_small : Dated (nodes s) (node_columns s (nodes s))
+  pub stamps_small : Dated (nodes s) (node_columns s (nodes s))
   unfolding node_columns
   stamps_small = record {
     small = λ v a l. omega (arith, filled_in (nodes s) zeros (λ w. cell s w 3) v a l (omega (arith, zeros_long, few_nodes)), cell_small s v 3);

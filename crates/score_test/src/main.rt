@@ -10,42 +10,11 @@ use std::alloc::Global;
 use std::rt::Files;
 use std::{env, io};
 
-// How many words of the scratch are written: the 35 of sheet K's table, and five that it leaves as they were.
-const SHOWN: usize = 40;
-
-// What the scratch is filled with, and the word where a gene has no history from a node: no costs, which are below 1,000,000.
-const UNTOUCHED: u32 = u32::MAX - 1;
-
-const NO_HISTORY: u32 = u32::MAX;
-
-// A word in six columns, and what follows it: '-' and '.' stand for the words that are no costs.
-fn show_word(rt: &impl Print, word: u32, end: char) -> io::Result<()> {
-    match word {
-        NO_HISTORY => print!(rt; "     -{end}"),
-        UNTOUCHED => print!(rt; "     .{end}"),
-        0..1000000 => print!(rt; "{word:>6}{end}"),
-        _ => print!(rt; "     ?{end}"),
-    }
-}
-
-// The first words, ten in a line.
-fn show_words(rt: &impl Print, scratch: &[u32]) -> io::Result<()> {
-    for (i, word) in scratch.iter().take(SHOWN).enumerate() {
-        show_word(rt, *word, if i % 10 == 9 { '\n' } else { ' ' })?;
-    }
-    Ok(())
-}
-
 fn score_one(rt: &impl Print, sheet: &[u8]) -> io::Result<()> {
     let mut result = [0; score::LEAST_BYTES];
-    let mut scratch = [UNTOUCHED; score::LEAST_WORDS];
-    match score::score(sheet, &mut result, &mut scratch) {
-        Ok(length) => {
-            rt.write_all(&result[..length])?;
-            show_words(rt, &scratch)
-        }
-        Err(refusal) => println!(rt; "{:>6}", refusal.number()),
-    }
+    let mut scratch = [test_outcomes::UNTOUCHED; score::LEAST_WORDS];
+    let answer = score::score(sheet, &mut result, &mut scratch);
+    test_outcomes::show(rt, answer, &result, &scratch)
 }
 
 // Scores the sheet of a name.

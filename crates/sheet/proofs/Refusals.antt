@@ -1,7 +1,7 @@
 -- The refusals 3, 4 and 5 as tests are those that a reader of 01 would state. A line is found just where the bytes are a line of numbers
 -- (`line_is` of columns), and a line has only one reading (`same_cells`), so each test over the lines is the statement about each line.
 -- Assumes nothing.
-use Rattle.std.proofs.Common.{ℕ, ◌+◌, ◌*◌, ◌<◌, ◌≡◌, refl, sym, ◌∙◌, subst, ◌↔◌, inl, inr, Bool, true, false, ◌&&◌, List, arith}
+use Rattle.std.proofs.Common.{ℕ, ◌+◌, ◌*◌, ◌<◌, ◌≡◌, refl, sym, ◌∙◌, subst, ◌↔◌, inl, inr, true, false, ◌&&◌, List, arith}
 use Rattle.finite.specs.Tests.{same}
 use Rattle.finite.specs.Range.{every}
 use Rattle.finite.specs.Tables.{at}
@@ -15,7 +15,7 @@ use Rattle.text_lines.specs.Lines.{field_count, line_length, line_at, LineIs}
 use Rattle.columns.specs.declared.Cursor.{Cursor}
 use Rattle.std.specs.Prelude.{Option, Some, None, is_some}
 use Rattle.text_lines.proofs.Lines.{line_is, small_read, one_line}
-use Rattle.sheet.specs.Sheets.{line_no, is_line, cell, header_in, header_by, header_of, nodes, genes, limits, Refusal3, Refusal4, Refusal5, HeadedIs, refusal3, refusal4, whole, node_line, gene_line, refusal5, Line, NodeLine, GeneLine, WellFormed}
+use Rattle.sheet.specs.Sheets.{line_no, is_line, cell, header_in, header_by, header_of, nodes, genes, limits, Refusal3, Refusal4, Refusal5, HeadedIs, refusal3, refusal4, whole, node_line, gene_line, refusal5, Line, NodeLine, GeneLine, WellFormed, formed}
 use Rattle.std.specs.Prelude.{Result}
 use Rattle.refusals.specs.declared.Refusal.{Refusal}
 use Rattle.sheet.proofs.Limits.{limits_is, is_limits}
@@ -114,27 +114,32 @@ line_gene s n g l = rw (
   is_same (same_cells s (n + g) _ l.line 4 (omega arith) ∙ l.fifth),
 )
 
--- 5: the later lines, or the length, are not as they should be
-abbrev later : List ℕ → Bool
-later s = whole s (nodes s) (genes s) && every (nodes s) (node_line s) && every (genes s) (gene_line s (nodes s))
+-- 5: the length and the later lines of a sheet with n node lines and m gene lines, as tests and as a statement
+module _ (s : List ℕ) (n m : ℕ) where
+  pub formed_is : formed s n m ≡ true → WellFormed s n m
+  unfolding whole
+  formed_is t = let lines = and_l (whole s n m && every n (node_line s)) _ t in
+      record {
+        total = same_is _ _ (and_l (whole s n m) _ lines);
+        node = λ v l u. node_line_lem s v (every_at n (node_line s) (and_r (whole s n m) _ lines) v l u);
+        gene = λ g l u. gene_line_lem s n g (every_at m (gene_line s n) (and_r (whole s n m && every n (node_line s)) _ t) g l u);
+      }
+
+  pub is_formed : WellFormed s n m → formed s n m ≡ true
+  unfolding whole
+  is_formed w = rw (
+    is_same w.total,
+    is_every n (node_line s) (λ v l u. line_node s v (w.node v l u)),
+    is_every m (gene_line s n) (λ g l u. line_gene s n g (w.gene g l u)),
+  )
 
 pub well_formed : (s : List ℕ) → refusal5 s ≡ false → WellFormed s (nodes s) (genes s)
-unfolding refusal5 whole
-well_formed s f = let t = not-false (later s) f in
-    let lines = and_l (whole s (nodes s) (genes s) && every (nodes s) (node_line s)) _ t in
-    record {
-      total = same_is _ _ (and_l (whole s (nodes s) (genes s)) _ lines);
-      node = λ v l u. node_line_lem s v (every_at (nodes s) (node_line s) (and_r (whole s (nodes s) (genes s)) _ lines) v l u);
-      gene = λ g l u. gene_line_lem s (nodes s) g (every_at (genes s) (gene_line s (nodes s)) (and_r (whole s (nodes s) (genes s) && every (nodes s) (node_line s)) _ t) g l u);
-    }
+unfolding refusal5
+well_formed s f = formed_is s (nodes s) (genes s) (not-false (formed s (nodes s) (genes s)) f)
 
 pub formed_well : (s : List ℕ) → WellFormed s (nodes s) (genes s) → refusal5 s ≡ false
-unfolding refusal5 whole
-formed_well s w = rw (
-  is_same w.total,
-  is_every (nodes s) (node_line s) (λ v l u. line_node s v (w.node v l u)),
-  is_every (genes s) (gene_line s (nodes s)) (λ g l u. line_gene s (nodes s) g (w.gene g l u)),
-)
+unfolding refusal5
+formed_well s w = rw (is_formed s (nodes s) (genes s) w)
 
 pub reading_5 : (s : List ℕ) → refusal3 s ≡ false → (refusal5 s ≡ true) ↔ Refusal5 s
 reading_5 s f = (

@@ -2,7 +2,7 @@
 -- Assumes nothing.
 use Rattle.std.proofs.Common.{◌≡◌, Err, rules, arith}
 use Rattle.newick.proofs.Answers.{answer_long, answer_unended, answer_longer, answer_many, answer_genes}
-use Rattle.newick.specs.declared.Unreadable.TheVariants.{Outside}
+use Rattle.refusals.specs.declared.Refusal.TheVariants.{OutsideGrammar}
 use Rattle.newick.proofs.read.Goals as goal
 
 pub returns-then-text-gt-LONGEST : goal.returns-then-text-gt-LONGEST
@@ -10,7 +10,7 @@ returns-then-text-gt-LONGEST c = answer_long _ _ (omega arith)
 
 pub returns-in_err-end : goal.returns-in_err-end
 returns-in_err-end c =
-    let e : c.from_residual-in_err-end.result ≡ Err Outside = search rules in
+    let e : c.from_residual-in_err-end.result ≡ Err OutsideGrammar = search rules in
     rw e (answer_unended _ _ _ (omega arith) c.in_ok-tree.tree c.tree.ensures (search rules) (search rules))
 
 pub returns-then-end-text : goal.returns-then-end-text

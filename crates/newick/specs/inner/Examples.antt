@@ -7,8 +7,8 @@ use Rattle.finite.specs.Tests.{same, under}
 use Rattle.columns.specs.Fields.{numeral_in, numeral}
 use Rattle.newick.specs.Trees.{Tree, leaf, pair, GeneLine, spelled, text_of, genes, lines_from}
 use Rattle.newick.specs.Reading.{digit_from, more_at, leaf_at, leaf_of, closed, paired, tree_in, tree_at, answer_to, answer_of}
-use Rattle.newick.specs.declared.Unreadable.{Unreadable}
-use Rattle.newick.specs.declared.Unreadable.TheVariants.{Outside, Many}
+use Rattle.refusals.specs.declared.Refusal.{Refusal}
+use Rattle.refusals.specs.declared.Refusal.TheVariants.{OutsideGrammar, LargeGeneTree}
 
 -- the bytes of a text
 abbrev bytes : String → List ℕ
@@ -16,7 +16,7 @@ bytes nil = []
 bytes (c ◂ s) = code c ∷ bytes s
 
 -- the answers to texts
-answers_to : List (List ℕ) → List (Result ℕ Unreadable)
+answers_to : List (List ℕ) → List (Result ℕ Refusal)
 answers_to [] = []
 answers_to (x ∷ xs) = answer_of x ∷ answers_to xs
 
@@ -51,11 +51,11 @@ taken = refl
 
 outside :
     answers_to (bytes "" ∷ bytes "1" ∷ bytes "0;" ∷ bytes "01;" ∷ bytes "1000000;" ∷ bytes "1; " ∷ bytes "(1);" ∷ bytes "(1,2,3);" ∷ bytes "(1, 2);" ∷ bytes "(1:2,3);" ∷ [])
-    ≡ replicate 10 (Err Outside)
+    ≡ replicate 10 (Err OutsideGrammar)
 unfolding open_Newick
 outside = refl
 
 -- 129 genes; the same text broken off after its 128th
-many : answers_to (text_of (comb 64) ∷ take 254 (text_of (comb 64)) ∷ []) ≡ Err Many ∷ Err Outside ∷ []
+many : answers_to (text_of (comb 64) ∷ take 254 (text_of (comb 64)) ∷ []) ≡ Err LargeGeneTree ∷ Err OutsideGrammar ∷ []
 unfolding open_Newick
 many = refl

@@ -1,0 +1,4 @@
+pub mod Readings
+pub mod Refusals
+pub mod Outcomes
+pub mod Promises
