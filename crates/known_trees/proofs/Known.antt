@@ -72,16 +72,16 @@ module _ (r : TreeRow) (p : passes r ≡ true) (k : Known r.known) where
         k.outcome d e u t a long ample (subst (λ (s : List ℕ). Plain.Promise s d e u t a) written plain);
   }
 
--- where the known sheets of a table of rows stand
-Places : List TreeRow → Type 0
-Places [] = Unit {0}
-Places (r ∷ rs) = Memᴰ r.known known_sheets × Places rs
+-- the known sheets of a list of rows stand in the table of them
+data Listed : List TreeRow → Type 0 where
+  none : Listed []
+  then : {r : TreeRow} {rs : List TreeRow} → Memᴰ r.known known_sheets → Listed rs → Listed (r ∷ rs)
 
-all_known : (rs : List TreeRow) → all_pass rs ≡ true → Places rs → (r : TreeRow) → Memᴰ r rs → KnownTree r
-unfolding all_pass Places
-all_known [] t places r m = elim m [ ]
-all_known (x ∷ xs) t places r (Memᴰ.head e) = subst KnownTree (sym e) (known_tree x (and_l (passes x) (all_pass xs) t) (known_sheets_lem x.known places.0))
-all_known (x ∷ xs) t places r (Memᴰ.tail m) = all_known xs (and_r (passes x) (all_pass xs) t) places.1 r m
+all_known : (rs : List TreeRow) → all_pass rs ≡ true → Listed rs → (r : TreeRow) → Memᴰ r rs → KnownTree r
+unfolding all_pass
+all_known [] t none r m = elim m [ ]
+all_known (x ∷ xs) t (then k ks) r (Memᴰ.head e) = subst KnownTree (sym e) (known_tree x (and_l (passes x) (all_pass xs) t) (known_sheets_lem x.known k))
+all_known (x ∷ xs) t (then k ks) r (Memᴰ.tail m) = all_known xs (and_r (passes x) (all_pass xs) t) ks r m
 
 row_at : (xs : List Row) (i : ℕ) (other : Row) → i < length xs → Memᴰ (get_or xs i other) xs
 row_at [] i other l = absurd (omega arith)
@@ -92,39 +92,12 @@ row_at (x ∷ xs) (suc i) other l = Memᴰ.tail (row_at xs i other (omega arith)
 known_at : (i : ℕ) → i < 16 → Memᴰ (get_or known_sheets i case1) known_sheets
 known_at i l = row_at known_sheets i case1 l
 
-places : Places known_trees
-unfolding Places
-places = (
-  known_at 0 (omega arith),
-  (
-    known_at 1 (omega arith),
-    (
-      known_at 2 (omega arith),
-      (
-        known_at 3 (omega arith),
-        (
-          known_at 4 (omega arith),
-          (
-            known_at 5 (omega arith),
-            (
-              known_at 6 (omega arith),
-              (
-                known_at 7 (omega arith),
-                (
-                  known_at 8 (omega arith),
-                  (
-                    known_at 9 (omega arith),
-                    (known_at 10 (omega arith), (known_at 12 (omega arith), (known_at 14 (omega arith), (known_at 15 (omega arith), tt)))),
-                  ),
-                ),
-              ),
-            ),
-          ),
-        ),
-      ),
-    ),
-  ),
-)
+listed : Listed known_trees
+listed =
+    then (known_at 0 (omega arith)) (then (known_at 1 (omega arith)) (then (known_at 2 (omega arith)) (then (known_at 3 (omega arith)) (
+    then (known_at 4 (omega arith)) (then (known_at 5 (omega arith)) (then (known_at 6 (omega arith)) (then (known_at 7 (omega arith)) (
+    then (known_at 8 (omega arith)) (then (known_at 9 (omega arith)) (then (known_at 10 (omega arith)) (then (known_at 12 (omega arith)) (
+    then (known_at 14 (omega arith)) (then (known_at 15 (omega arith)) none)))))))))))))
 
 all_pass_lem : all_pass known_trees ≡ true
 unfolding open_Finite open_Sheet passes all_pass refusal4 refusal5 gene_lines_of genes lines_from no_line line_at digit_from more_at leaf_at leaf_of closed paired tree_in tree_at answer_to answer_of lines_found lines_read gene_text written_out
@@ -132,7 +105,7 @@ all_pass_lem = refl
 
 -- whatever a call that keeps the promise of `score_newick` does with the sheet and the text of a row of the table, it does what is known of the known sheet
 pub known_trees_lem : (r : TreeRow) → Memᴰ r known_trees → KnownTree r
-known_trees_lem = all_known known_trees all_pass_lem places
+known_trees_lem = all_known known_trees all_pass_lem listed
 
 -- a row whose sheet is refused as the known sheet is, with nothing written
 module _ (r : TreeRow) (x : Refusal) (answer : r.known.answer ≡ Err x) (report : r.known.report ≡ []) (words : r.known.words ≡ [])

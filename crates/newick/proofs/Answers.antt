@@ -132,13 +132,17 @@ promised text b c a e f = record { says = f (rw e (decided text)); answer_is = e
 
 pub answer_long : (text : List ℕ) (b : GeneColumns) → 574 < length text → Promise text b b (Err LargeGeneTree)
 unfolding answer_of Means
-answer_long text b h = promised text b b (Err LargeGeneTree) (rw (is_under h)) (λ m. (m, kept_same 127 b))
+answer_long text b h = promised text b b (Err LargeGeneTree) (rw (is_under h)) (λ m. (m, kept_same 127 b, λ _. refl))
 
 module _ (text : List ℕ) (b c : GeneColumns) (short : length text ≤ 574) where
+  -- it is read, and not longer
+  not_longer : 574 < length text → c ≡ b
+  not_longer l = absurd (omega arith)
+
   -- where the text is outside the grammar
   outside_by : (r : Option Place) → Outcome (tree_at text 0) 0 0 b r c → answer_to text (tree_at text 0) ≡ Err OutsideGrammar → Promise text b c (Err OutsideGrammar)
   unfolding answer_of Means
-  outside_by r o e = promised text b c (Err OutsideGrammar) (rw (not_under short, e)) (λ m. (m, told_kept 0 0 b c (tree_at text 0) r o))
+  outside_by r o e = promised text b c (Err OutsideGrammar) (rw (not_under short, e)) (λ m. (m, told_kept 0 0 b c (tree_at text 0) r o, not_longer))
 
   pub answer_none : {r : Option Place} → Outcome (tree_at text 0) 0 0 b r c → r ≡ None → Promise text b c (Err OutsideGrammar)
   unfolding answer_to
@@ -176,7 +180,7 @@ module _ (text : List ℕ) (b c : GeneColumns) (short : length text ≤ 574) whe
         unfolding answer_of answer_to Means
         answer_many h =
             let u : under 127 (genes x.tree) ≡ true = is_under (omega (arith, count)) in
-            promised text b c (Err LargeGeneTree) (rw (not_under short, x.found_is, next.test, z, u)) (λ m. (m, told_kept 0 0 b c (tree_at text 0) (Some tree) o))
+            promised text b c (Err LargeGeneTree) (rw (not_under short, x.found_is, next.test, z, u)) (λ m. (m, told_kept 0 0 b c (tree_at text 0) (Some tree) o, not_longer))
 
         pub answer_genes : end.genes ≤ 127 → Promise text b c (Ok end.genes)
         unfolding answer_of answer_to Means

@@ -49,10 +49,10 @@ pub record Kept (m : ℕ) (b c : GeneColumns) : Type 0 where
   pub others : (g : ℕ) → (g ≡ 0) ⊎ (m < g) → line_in c g ≡ line_in b g
 
 -- what each case of the answer says of the text, and of the columns of the genes before and after the call: the lines of the genes are those of the tree
--- that the text is of, and nothing else is written; after a refusal the entries 1 to 127 are left open
+-- that the text is of, and nothing else is written; after a refusal the entries 1 to 127 are left open, and a text that is longer is not read
 abbrev pub Says : (text : List ℕ) (before after : GeneColumns) → Result ℕ Refusal → Type 0
 Says text before after (Ok m) = (t : Taken text m) × (genes_in m after ≡ gene_lines_of t.tree) × Kept m before after
-Says text before after (Err r) = Refused text r × Kept 127 before after
+Says text before after (Err r) = Refused text r × Kept 127 before after × (574 < length text → after ≡ before)
 
 -- the promise of the reader
 pub record Promise (text : List ℕ) (before after : GeneColumns) (answer : Result ℕ Refusal) : Type 0 where

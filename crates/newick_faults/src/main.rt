@@ -56,13 +56,10 @@ fn score_place(
 
 // All faults of the tree of a name.
 fn score_named<R: Files + Print>(rt: &R, alloc: Global, name: &str) -> io::Result<()> {
-    let mut sheet = [0; SHEET];
-    let Some(bytes) = test_files::read(rt, alloc, name, ".sheet", &mut sheet)? else {
-        return println!(rt; "the sheet of {name} is missing");
-    };
-    let mut tree = [0; TREE];
-    let Some(length) = test_files::read(rt, alloc, name, ".tree", &mut tree)? else {
-        return println!(rt; "the tree of {name} is missing");
+    let (mut sheet, mut tree) = ([0; SHEET], [0; TREE]);
+    let read = test_files::read_with_tree(rt, alloc, name, &mut sheet, &mut tree)?;
+    let Some((bytes, length)) = read else {
+        return println!(rt; "{name} is missing, or its tree");
     };
     println!(rt; "{name}")?;
     let (sheet, tree) = (&sheet[..bytes], &tree[..length]);

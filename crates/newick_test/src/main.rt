@@ -10,23 +10,26 @@ use reply_newick::TREE;
 use std::alloc::Global;
 use std::rt::Files;
 use std::{env, io};
+use test_outcomes::{Outcome, UNTOUCHED};
 
 fn score_one(rt: &impl Print, sheet: &[u8], tree: &[u8]) -> io::Result<()> {
     let mut result = [0; score::LEAST_BYTES];
-    let mut scratch = [test_outcomes::UNTOUCHED; score::LEAST_WORDS];
+    let mut scratch = [UNTOUCHED; score::LEAST_WORDS];
     let answer = score_newick::score_newick(sheet, tree, &mut result, &mut scratch);
-    test_outcomes::show(rt, answer, &result, &scratch)
+    let outcome = Outcome {
+        answer,
+        result: &result,
+        scratch: &scratch,
+    };
+    print!(rt; "{outcome}")
 }
 
 // Scores the sheet and the tree of a name.
 fn score_named<R: Files + Print>(rt: &R, alloc: Global, name: &str) -> io::Result<()> {
-    let mut sheet = [0; SHEET];
-    let Some(bytes) = test_files::read(rt, alloc, name, ".sheet", &mut sheet)? else {
-        return println!(rt; "the sheet of {name} is missing");
-    };
-    let mut tree = [0; TREE];
-    let Some(length) = test_files::read(rt, alloc, name, ".tree", &mut tree)? else {
-        return println!(rt; "the tree of {name} is missing");
+    let (mut sheet, mut tree) = ([0; SHEET], [0; TREE]);
+    let read = test_files::read_with_tree(rt, alloc, name, &mut sheet, &mut tree)?;
+    let Some((bytes, length)) = read else {
+        return println!(rt; "{name} is missing, or its tree");
     };
     println!(rt; "{name}")?;
     score_one(rt, &sheet[..bytes], &tree[..length])

@@ -87,13 +87,14 @@ module _ (v : List ℕ → ℕ) (X : List ℕ → Contents) (test4 test5 : List 
   pub cut_by : (s : List ℕ) (k : ℕ) → longest_sheet < k → Alike (v (take k s)) (X (take k s)) (v s) (X s)
   cut_by s k l = by_less k (length s) (cut_long s k l) (λ u. rw (take_all k s u) (record { verdict = refl; reply = refl }))
 
--- the plain call's
-room : least_bytes ≤ least_bytes
+-- the buffers that a program lends
+pub room : least_bytes ≤ least_bytes
 room = omega arith
 
-space : least_words ≤ least_words
+pub space : least_words ≤ least_words
 space = omega arith
 
+-- the plain call's
 four_kept : (s : List ℕ) (k : ℕ) → longest_sheet < k → k < length s → refusal3 s ≡ false → refusal4 (take k s) ≡ refusal4 s
 unfolding refusal4
 four_kept s k l h f = ap not (limits_kept s k l h f)

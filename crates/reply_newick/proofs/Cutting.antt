@@ -1,18 +1,16 @@
 -- Cutting a sheet behind the room of the longest, or a text behind 574 bytes, leaves the verdict and the reply as they were: the sheet as in crate reply, and
 -- a text that is longer has refusal 15 before and after, unless one that is checked before it applies.
 -- Assumes nothing.
-use Rattle.std.proofs.Common.{◌≡◌, ◌≢◌, refl, sym, ◌∙◌, ap, true, false, List, ◌++◌, ℕ, ◌≤◌, ◌<◌, arith, length, take, length-take-le, take_all, Err}
+use Rattle.std.proofs.Common.{◌≡◌, ◌≢◌, refl, sym, ◌∙◌, ap, true, false, List, ◌++◌, ℕ, ◌<◌, arith, length, take, length-take-le, take_all, Err}
 use Rattle.finite.specs.Refusals.{Refusal, verdict}
 use Rattle.finite.proofs.Cases.{by_eq, by_less}
-use Rattle.finite.proofs.Refusals.{verdict_first, verdict_tail, Idle, verdict_idle}
+use Rattle.finite.proofs.Refusals.{verdict_first, verdict_tail, verdict_idle}
 use Rattle.finite.proofs.Tests.{is_under, not_same}
 use Rattle.family.specs.Buffers.{least_words, least_bytes}
 use Rattle.layout.specs.declared.Header.{Header}
 use Rattle.sheet.specs.Sheets.{refusal3}
-use Rattle.network.specs.Refusals.{network_refusals, after_six}
-use Rattle.shapes.specs.Refusals.{shape_refusals, after_eight}
+use Rattle.network.specs.Refusals.{network_refusals}
 use Rattle.components.specs.Refusals.{component_refusals}
-use Rattle.gene_tree.specs.Refusals.{gene_refusals, species_refusals}
 use Rattle.newick.specs.Answers.{tree_refusals}
 use Rattle.newick.specs.Reading.{answer_of}
 use Rattle.newick.proofs.Answers.{tree_tells, tree_verdict}
@@ -22,17 +20,11 @@ use Rattle.score.specs.Refusals.{buffer_refusals}
 use Rattle.score_newick.specs.Sheets.{refusal4, refusal5}
 use Rattle.score_newick.specs.Refusals.{sheet_refusals, curator_refusals, contents_of, refusals, refusal}
 use Rattle.score_newick.proofs.Readings.{four_passes}
-use Rattle.score_newick.proofs.Refusals.{refusal_3, refusal_4, refusal_5, curators_pass, none_passes, no_others}
+use Rattle.score_newick.proofs.Refusals.{only_its_own, refusal_3, refusal_4, refusal_5, curators_pass, none_passes, no_others}
 use Rattle.reply.specs.Replies.{longest_sheet}
 use Rattle.reply.proofs.Replying.{Alike, alike_refused}
-use Rattle.reply.proofs.Cutting.{header_kept, limits_kept, too_long, cut_by}
+use Rattle.reply.proofs.Cutting.{room, space, header_kept, limits_kept, too_long, cut_by}
 use Rattle.reply_newick.specs.Replies.{longest_text}
-
-room : least_bytes ≤ least_bytes
-room = omega arith
-
-space : least_words ≤ least_words
-space = omega arith
 
 -- with buffers that 1 and 2 do not refuse
 abbrev pub verdict_of : (s x : List ℕ) → ℕ
@@ -70,13 +62,11 @@ module _ (s x : List ℕ) (long : longest_text < length x) where
       omega (arith, sym (ap refused answer_15) ∙ p.1)
 
   -- nor refused by 14
-  idle : Idle 14 (refusals s x least_bytes least_words)
-  unfolding Idle refusals buffer_refusals sheet_refusals curator_refusals network_refusals after_six shape_refusals after_eight component_refusals tree_refusals gene_refusals species_refusals
-  idle = ((λ e. absurd (omega arith)), ((λ e. absurd (omega arith)), ((λ e. absurd (omega arith)), ((λ e. absurd (omega arith)), ((λ e. absurd (omega arith)), ((λ e. absurd (omega arith)), ((λ e. absurd (omega arith)), ((λ e. absurd (omega arith)), ((λ e. absurd (omega arith)), ((λ e. absurd (omega arith)), ((λ e. absurd (omega arith)), ((λ _. rw answer_15 (not_same {m = 15} {n = 14} (λ z. omega arith))), ((λ e. absurd (omega arith)), ((λ e. absurd (omega arith)), ((λ e. absurd (omega arith)), tt)))))))))))))))
-
   pub not_14 : verdict_of s x ≢ 14
   unfolding refusal
-  not_14 = verdict_idle 14 (refusals s x least_bytes least_words) idle (λ z. omega arith)
+  not_14 = verdict_idle 14 (refusals s x least_bytes least_words)
+      (only_its_own s x least_bytes least_words 14 (omega arith) (λ e. omega arith) (omega arith) (λ e. absurd (omega arith)) (λ _. rw answer_15 (not_same {m = 15} {n = 14} (λ z. omega arith))))
+      (λ z. omega arith)
 
 -- two of them
 module _ (s x y : List ℕ) (long_x : longest_text < length x) (long_y : longest_text < length y) where

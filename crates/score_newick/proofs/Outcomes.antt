@@ -105,10 +105,10 @@ module _ (text : List ℕ) (before after : GeneColumns) {r : Result ℕ Refusal}
   -- what the lines say with these genes
   module _ (lines : Lines) where
     pub contents_read : record { nodes = nodes_of lines; genes = genes_in m after; costs = costs lines.header } ≡ contents_by lines text
-    contents_read = ap (λ (K : GeneLines). contents_with_genes K) genes_read
+    contents_read = ap with_genes genes_read
       where
-        contents_with_genes : GeneLines → Contents
-        contents_with_genes K = record { nodes = nodes_of lines; genes = K; costs = costs lines.header }
+        with_genes : GeneLines → Contents
+        with_genes K = record { nodes = nodes_of lines; genes = K; costs = costs lines.header }
 
     pub verdict_read : verdict (gene_refusals (nodes_of lines) (genes_in m after)) ≡ verdict (gene_refusals (nodes_of lines) (lines_read text))
     verdict_read = ap (λ (K : GeneLines). verdict (gene_refusals (nodes_of lines) K)) genes_read

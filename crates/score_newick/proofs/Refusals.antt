@@ -5,6 +5,7 @@ use Rattle.std.proofs.Common.{ℕ, ◌≤◌, ◌<◌, ◌≡◌, ◌≢◌, sym
 use Rattle.refusals.specs.declared.Refusal.{Refusal as Reason}
 use Rattle.refusals.specs.Numbers.{number, refused}
 use Rattle.refusals.proofs.Numbers.{some}
+use Rattle.finite.specs.Tests.{same}
 use Rattle.finite.specs.Refusals.{verdict, AllTell}
 use Rattle.finite.proofs.Refusals.{verdict_here, verdict_later, verdict_none, verdict_first, verdict_second, verdict_tail, both_none, all_tell, Idle, verdict_idle, Low}
 use Rattle.sheet.specs.Sheets.{refusal3}
@@ -13,10 +14,10 @@ use Rattle.network.specs.Refusals.{network_refusals, after_six}
 use Rattle.network.specs.inner.Accepted.{NoOthers}
 use Rattle.network.proofs.Acceptance.{none_outside}
 use Rattle.components.specs.Refusals.{component_refusals}
-use Rattle.gene_tree.specs.Refusals.{gene_refusals, species_refusals}
+use Rattle.gene_tree.specs.Refusals.{refusal12, gene_refusals, species_refusals}
 use Rattle.gene_tree.proofs.Refusals.{gene_tell}
 use Rattle.newick.specs.Answers.{tree_refusals}
-use Rattle.newick.specs.Reading.{answer_of}
+use Rattle.newick.specs.Reading.{answer_of, lines_read}
 use Rattle.newick.proofs.Answers.{tree_tells, tree_verdict}
 use Rattle.newick.proofs.Numbering.{read_12}
 use Rattle.family.specs.Families.{Contents}
@@ -85,13 +86,15 @@ module _ (s text : List ℕ) (bytes words : ℕ) where
   unfolding Low refusals buffer_refusals sheet_refusals curator_refusals network_refusals after_six shape_refusals after_eight component_refusals tree_refusals gene_refusals species_refusals
   all_low = (omega arith, (omega arith, (omega arith, (omega arith, (omega arith, (omega arith, (omega arith, (omega arith, (omega arith, (omega arith, (omega arith, (omega arith, (omega arith, (omega arith, (omega arith, tt)))))))))))))))
 
-  twelve_idle : Idle 12 (refusals s text bytes words)
+  -- 12 or 14 is no verdict where its own test fails, since no other refusal has its number
+  pub only_its_own : (k : ℕ) → 12 ≤ k → k ≢ 13 → k < 15 → (k ≡ 12 → refusal12 (lines_read text) ≡ false) → (k ≡ 14 → same (refused (answer_of text)) 14 ≡ false)
+      → Idle k (refusals s text bytes words)
   unfolding Idle refusals buffer_refusals sheet_refusals curator_refusals network_refusals after_six shape_refusals after_eight component_refusals tree_refusals gene_refusals species_refusals
-  twelve_idle = ((λ e. absurd (omega arith)), ((λ e. absurd (omega arith)), ((λ e. absurd (omega arith)), ((λ e. absurd (omega arith)), ((λ e. absurd (omega arith)), ((λ e. absurd (omega arith)), ((λ e. absurd (omega arith)), ((λ e. absurd (omega arith)), ((λ e. absurd (omega arith)), ((λ e. absurd (omega arith)), ((λ e. absurd (omega arith)), ((λ e. absurd (omega arith)), ((λ e. absurd (omega arith)), ((λ _. read_12 text), ((λ e. absurd (omega arith)), tt)))))))))))))))
+  only_its_own k low d high twelve fourteen = ((λ e. absurd (omega arith)), ((λ e. absurd (omega arith)), ((λ e. absurd (omega arith)), ((λ e. absurd (omega arith)), ((λ e. absurd (omega arith)), ((λ e. absurd (omega arith)), ((λ e. absurd (omega arith)), ((λ e. absurd (omega arith)), ((λ e. absurd (omega arith)), ((λ e. absurd (omega arith)), ((λ e. absurd (omega arith)), ((λ e. fourteen (sym e)), ((λ e. absurd (omega arith)), ((λ e. twelve (sym e)), ((λ e. absurd (d (sym e))), tt)))))))))))))))
 
   pub never_12 : refusal s text bytes words ≢ 12
   unfolding refusal
-  never_12 = verdict_idle 12 (refusals s text bytes words) twelve_idle (λ e. omega arith)
+  never_12 = verdict_idle 12 (refusals s text bytes words) (only_its_own 12 (omega arith) (λ e. omega arith) (omega arith) (λ _. read_12 text) (λ e. absurd (omega arith))) (λ e. omega arith)
 
   -- the ways out before the curators
   pub refusal_1 : words < least_words → refusal s text bytes words ≡ 1

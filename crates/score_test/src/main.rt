@@ -9,12 +9,18 @@ use reply::SHEET;
 use std::alloc::Global;
 use std::rt::Files;
 use std::{env, io};
+use test_outcomes::{Outcome, UNTOUCHED};
 
 fn score_one(rt: &impl Print, sheet: &[u8]) -> io::Result<()> {
     let mut result = [0; score::LEAST_BYTES];
-    let mut scratch = [test_outcomes::UNTOUCHED; score::LEAST_WORDS];
+    let mut scratch = [UNTOUCHED; score::LEAST_WORDS];
     let answer = score::score(sheet, &mut result, &mut scratch);
-    test_outcomes::show(rt, answer, &result, &scratch)
+    let outcome = Outcome {
+        answer,
+        result: &result,
+        scratch: &scratch,
+    };
+    print!(rt; "{outcome}")
 }
 
 // Scores the sheet of a name.

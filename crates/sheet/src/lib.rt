@@ -147,7 +147,8 @@ impl Headed<'_> {
     }
 }
 
-// The lines after an accepted header. (Inlined, since two calls read lines: so the columns are filled where the call has them, and a function's result would be copied.)
+// The lines after an accepted header. (Inlined, since two calls read lines: so the columns are filled where the call has them, and a function's result would
+// be copied.)
 #[inline(always)]
 pub fn read_lines(s: &[u8], header: Header) -> Result<Lines, Refusal>
     requires { FewLines header }

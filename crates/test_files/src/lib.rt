@@ -26,3 +26,23 @@ pub fn read<R: Files>(
     };
     Ok(Some(input::read_full(file, into)?))
 }
+
+// The same of a sheet and the tree beside it: how many bytes each is, or nothing where one of them is not there.
+pub fn read_with_tree<R: Files>(
+    rt: &R,
+    alloc: Global,
+    name: &str,
+    sheet: &mut [u8],
+    tree: &mut [u8],
+) -> io::Result<Option<(usize, usize)>>
+    ensures fits { IfOk result (λ got. IfSome got (λ bytes. (bytes.0 ≤ length sheet.old) × (bytes.1 ≤ length tree.old))) }
+    ensures kept { (length sheet.new ≡ length sheet.old) × (length tree.new ≡ length tree.old) }
+{
+    let Some(sheet_bytes) = read(rt, alloc, name, ".sheet", sheet)? else {
+        return Ok(None);
+    };
+    let Some(tree_bytes) = read(rt, alloc, name, ".tree", tree)? else {
+        return Ok(None);
+    };
+    Ok(Some((sheet_bytes, tree_bytes)))
+}

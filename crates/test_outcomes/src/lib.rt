@@ -1,12 +1,9 @@
 // What a call made of its sheet, as the test programs show it: the report and the first words of the scratch, or the refusal's number in six columns and a
-// line feed.
+// line feed. (A type that displays itself: what a function prints no contract can say.)
 #![tactic(auto)]
 
-ghost use Rattle.std.specs.Prelude.{◌≤◌, length};
-ghost use Rattle.std.specs.Result.{ForOk};
-
 use answer::Answer;
-use std::io;
+use std::fmt;
 
 // How many words of the scratch are written: the 35 of sheet K's table, and five that it leaves as they were.
 const SHOWN: usize = 40;
@@ -16,33 +13,48 @@ pub const UNTOUCHED: u32 = u32::MAX - 1;
 
 const NO_HISTORY: u32 = u32::MAX;
 
-// A word in six columns, and what follows it: '-' and '.' stand for the words that are no costs.
-fn show_word(rt: &impl Print, word: u32, end: char) -> io::Result<()> {
-    match word {
-        NO_HISTORY => print!(rt; "     -{end}"),
-        UNTOUCHED => print!(rt; "     .{end}"),
-        0..1000000 => print!(rt; "{word:>6}{end}"),
-        _ => print!(rt; "     ?{end}"),
+// What a call answered and left.
+#[derive(Clone, Copy)]
+pub struct Outcome<'a> {
+    pub answer: Answer,
+    pub result: &'a [u8],
+    pub scratch: &'a [u32],
+}
+
+// A word in six columns: '-' and '.' stand for the words that are no costs.
+#[derive(Clone, Copy)]
+struct Word(u32);
+
+impl fmt::Display for Word {
+    fn fmt<W: fmt::Write>(&self, f: &mut fmt::Formatter<W>) -> fmt::Result {
+        match self.0 {
+            NO_HISTORY => write!(f, "     -"),
+            UNTOUCHED => write!(f, "     ."),
+            0..1000000 => write!(f, "{:>6}", self.0),
+            _ => write!(f, "     ?"),
+        }
     }
 }
 
 // The first words, ten in a line.
-fn show_words(rt: &impl Print, scratch: &[u32]) -> io::Result<()> {
+fn write_words<W: fmt::Write>(f: &mut fmt::Formatter<W>, scratch: &[u32]) -> fmt::Result {
     for (i, word) in scratch.iter().take(SHOWN).enumerate() {
-        show_word(rt, *word, if i % 10 == 9 { '\n' } else { ' ' })?;
+        let end = if i % 10 == 9 { '\n' } else { ' ' };
+        write!(f, "{}{end}", Word(*word))?;
     }
     Ok(())
 }
 
-// The outcome of a call that left these buffers.
-pub fn show(rt: &impl Print, answer: Answer, res: &[u8], scratch: &[u32]) -> io::Result<()>
-    requires fits { ForOk answer (λ bytes. bytes ≤ length res.now) }
-{
-    match answer {
-        Ok(length) => {
-            rt.write_all(&res[..length])?;
-            show_words(rt, scratch)
+impl fmt::Display for Outcome<'_> {
+    fn fmt<W: fmt::Write>(&self, f: &mut fmt::Formatter<W>) -> fmt::Result {
+        match self.answer {
+            Ok(bytes) => {
+                for byte in self.result.iter().take(bytes) {
+                    write!(f, "{}", char::from(*byte))?;
+                }
+                write_words(f, self.scratch)
+            }
+            Err(refusal) => writeln!(f, "{:>6}", refusal.number()),
         }
-        Err(refusal) => println!(rt; "{:>6}", refusal.number()),
     }
 }
