@@ -1,7 +1,8 @@
 /*
  * How much stack the calls take: each sheet is scored in a thread whose stack was filled with a pattern, and what is left of the pattern
- * tells how deep the call went, less what a thread that does nothing takes. A sheet with a tree beside it (NAME.sheet and NAME.tree) is
- * scored with that. It fails above 32 KiB, and with a tree above 64 KiB: its readers go as deep as its brackets.
+ * tells how deep the call went, less what a thread that does nothing takes. A sheet alone is scored with and without its history; one with a
+ * tree beside it (NAME.sheet and NAME.tree) is scored with that. It fails above 32 KiB, and with a tree above 64 KiB: its readers go as deep as
+ * its brackets.
  */
 #include <pthread.h>
 #include <stdio.h>
@@ -29,19 +30,24 @@ struct most {
 };
 
 static struct text sheet, tree;
-static uint8_t result[LGT_SCORE_RESULT_BYTES];
+static uint8_t result[LGT_SCORE_HISTORY_RESULT_BYTES];
 static uint32_t scratch[LGT_SCORE_SCRATCH_WORDS];
 static _Alignas(4096) uint8_t stack[STACK];
 
 static void *idle(void *nothing) { return nothing; }
 
 static void *score(void *nothing) {
-    lgt_score(sheet.bytes, sheet.len, result, sizeof result, scratch, LGT_SCORE_SCRATCH_WORDS);
+    lgt_score(sheet.bytes, sheet.len, result, LGT_SCORE_RESULT_BYTES, scratch, LGT_SCORE_SCRATCH_WORDS);
+    return nothing;
+}
+
+static void *score_history(void *nothing) {
+    lgt_score_history(sheet.bytes, sheet.len, result, sizeof result, scratch, LGT_SCORE_SCRATCH_WORDS);
     return nothing;
 }
 
 static void *score_newick(void *nothing) {
-    lgt_score_newick(sheet.bytes, sheet.len, tree.bytes, tree.len, result, sizeof result, scratch, LGT_SCORE_SCRATCH_WORDS);
+    lgt_score_newick(sheet.bytes, sheet.len, tree.bytes, tree.len, result, LGT_SCORE_RESULT_BYTES, scratch, LGT_SCORE_SCRATCH_WORDS);
     return nothing;
 }
 
@@ -86,8 +92,13 @@ static void measure(void *(*work)(void *), struct most *most) {
     most->calls++;
 }
 
+static int told(const char *what, const struct most *most, size_t stated) {
+    printf("stack: at most %zu bytes over %d sheets%s, %zu stated\n", most->taken, most->calls, what, stated);
+    return most->taken < stated;
+}
+
 int main(int count, char **names) {
-    struct most alone = {0, 0}, with_tree = {0, 0};
+    struct most alone = {0, 0}, with_history = {0, 0}, with_tree = {0, 0};
     for (int i = 1; i < count; i++) {
         if (strlen(names[i]) < strlen(".sheet") || !is_read(names[i], &sheet)) {
             fprintf(stderr, "there is no sheet %s that can be read\n", names[i]);
@@ -97,9 +108,11 @@ int main(int count, char **names) {
             measure(score_newick, &with_tree);
         } else {
             measure(score, &alone);
+            measure(score_history, &with_history);
         }
     }
-    printf("stack: at most %zu bytes over %d sheets, %d stated\n", alone.taken, alone.calls, STATED);
-    printf("stack: at most %zu bytes over %d sheets with trees, %d stated\n", with_tree.taken, with_tree.calls, STATED_WITH_TREE);
-    return alone.taken < STATED && with_tree.taken < STATED_WITH_TREE ? 0 : 1;
+    int kept = told("", &alone, STATED);
+    kept &= told(" with their histories", &with_history, STATED);
+    kept &= told(" with trees", &with_tree, STATED_WITH_TREE);
+    return kept ? 0 : 1;
 }

@@ -10,6 +10,7 @@ import sys
 
 ROOTS = [
     "crates/score/specs/Outcome.antt",
+    "crates/score_history/specs/Outcome.antt",
     "crates/score_newick/specs/Outcome.antt",
     "crates/score_c/specs/Exported.antt",
     "crates/reply/specs/Replies.antt",

@@ -6,7 +6,8 @@ use std::hint::black_box;
 use crate::calls::Call;
 use crate::families::{self, Growth};
 use crate::random::Random;
-use crate::reference::{self, RESULT_BYTES, SCRATCH_WORDS, whole};
+use crate::reference::sheet::LINE;
+use crate::reference::{self, HISTORY_BYTES, SCRATCH_WORDS, whole};
 use crate::tally::Tally;
 use crate::workloads::{self, Workload};
 
@@ -64,7 +65,7 @@ struct Timer {
 
 impl Timer {
     fn new() -> Self {
-        Timer { result: vec![0; RESULT_BYTES], scratch: vec![0; SCRATCH_WORDS] }
+        Timer { result: vec![0; HISTORY_BYTES], scratch: vec![0; SCRATCH_WORDS] }
     }
 
     /// Microseconds a call over `passes` passes over the calls.
@@ -78,10 +79,26 @@ impl Timer {
         (microseconds_used() - start) / (passes * side.calls.len()) as f64
     }
 
+    /// How many lines the histories of a workload have, on average.
+    fn history_lines(&mut self, workload: &Workload) -> f64 {
+        let mut bytes = |calls: &[Call]| -> u32 {
+            calls.iter().map(|call| by_reference(call, &mut self.result, &mut self.scratch)).sum()
+        };
+        let behind_reports = bytes(&workload.calls) - bytes(&as_plain(workload));
+        f64::from(behind_reports) / (LINE * workload.calls.len()) as f64
+    }
+
     /// Rust against the proved entry on the same calls.
     fn implementations(&mut self, workload: &Workload) -> Line {
         let calls = &workload.calls;
         self.line(&workload.name, [Side { calls, score: by_reference }, Side { calls, score: by_proved }])
+    }
+
+    /// The proved call against the proved plain call whose report it gives as well.
+    fn with_plain(&mut self, workload: &Workload) -> Line {
+        let plain = as_plain(workload);
+        let sides = [plain.as_slice(), &workload.calls].map(|calls| Side { calls, score: by_proved });
+        self.line(&workload.name, sides)
     }
 
     fn line(&mut self, name: &str, sides: [Side; 2]) -> Line {
@@ -125,6 +142,7 @@ pub fn run(seed: u64) -> String {
     }
     table.push(&table_alone(&mut random, &mut timer));
     newick(&mut random, &mut timer, &mut table);
+    histories(&mut random, &mut timer, &mut table);
     table.0
 }
 
@@ -163,15 +181,16 @@ impl Line {
     }
 }
 
+fn as_plain(workload: &Workload) -> Vec<Call> {
+    workload.calls.iter().map(|call| call.as_plain().expect("a scored family")).collect()
+}
+
 /// The Newick call beside the plain call of the proved entry on the same families, beside Rust's Newick call, and by the length of the text.
 fn newick(random: &mut Random, timer: &mut Timer, table: &mut Table) {
     let workloads = workloads::newick(random);
     table.heading("\nproved, the gene tree as lines and as Newick text", ["lines", "Newick"]);
-    for Workload { name, calls } in &workloads {
-        let plain: Vec<Call> =
-            calls.iter().map(|call| call.written_out().expect("a scored family")).collect();
-        let sides = [plain.as_slice(), calls].map(|calls| Side { calls, score: by_proved });
-        table.push(&timer.line(name, sides).text());
+    for workload in &workloads {
+        table.push(&timer.with_plain(workload).text());
     }
     table.heading("\nNewick", ["Rust", "proved"]);
     for workload in &workloads {
@@ -191,6 +210,24 @@ fn nanoseconds_a_byte(lengths: [usize; 4], times: [f64; 4]) -> String {
         format!("{from} to {to} {:.2}", 1e3 * (times[i] - times[i - 1]) / (to - from) as f64)
     });
     format!("reading, proved: ns a byte more: {}\n", steps.collect::<Vec<_>>().join(", "))
+}
+
+/// The call with a history beside the plain call of the proved entry on the same families, with what a line of the history takes, and beside
+/// Rust's call with a history.
+fn histories(random: &mut Random, timer: &mut Timer, table: &mut Table) {
+    let workloads = workloads::histories(random);
+    table.heading("\nproved, the report alone and with a history", ["report", "history"]);
+    let lines: Vec<Line> = workloads.iter().map(|workload| timer.with_plain(workload)).collect();
+    lines.iter().for_each(|line| table.push(&line.text()));
+    for (workload, Line { name, times: [plain, with_history], .. }) in workloads.iter().zip(&lines) {
+        let lines = timer.history_lines(workload);
+        let each = 1e3 * (with_history - plain) / lines;
+        table.push(&format!("{name:<52} {lines:>12.1} lines, proved: {each:.1} ns each\n"));
+    }
+    table.heading("\nhistory", ["Rust", "proved"]);
+    for workload in &workloads {
+        table.push(&timer.implementations(workload).text());
+    }
 }
 
 /// The whole-network table without the rest of the call, which the static library does not export.
@@ -245,7 +282,8 @@ The proved entries beside an independent implementation in ordinary Rust (`compa
 - \"Most trials\" is the largest search that refusal 10 leaves room for at n = 127: 31 reticulations in components of 8, 8, 8 and 7, so 896 trials.
 - The static library exports whole calls only. For the whole-network table the call on a network without reticulations stands for it; the two lines \"table alone\" time the table on the Rust side.
 - Below the plain call stands the one that takes the gene tree as Newick text: against the plain call on the same families with their gene lines, both proved, where the bar is a ratio of 1.10; against the Newick call in Rust; and on texts whose only fault is their last byte, with what each further byte costs from one length to the next. That is the same from each length to the next where reading is linear in the text.
-- Before the times were taken, {} calls were compared in answer, result, scratch and untouched rest ({} scored, {} of these also by enumerating {} settings in all; {} took Newick text, and {} of these, wherever sheet and text can be read, were also compared with the plain call on the sheet with the gene lines written out); mismatches: {}.
+- Then comes the one that writes a history behind the report: against the plain call on the same families, both proved, with what a line of the history takes; and against the call with a history in Rust. The longest history is the longest of any sheet that is scored.
+- Before the times were taken, {} calls were compared in answer, result, scratch and untouched rest ({} scored, {} of these also by enumerating {} settings in all; {} took Newick text, and {} of these, wherever sheet and text can be read, were also compared with the plain call on the sheet with the gene lines written out; {} histories of {} lines were replayed line by line, and {} of them compared with the first of all cheapest histories, {} histories in all); mismatches: {}.
 
 ```text
 {table}```
@@ -256,6 +294,10 @@ The proved entries beside an independent implementation in ordinary Rust (`compa
         tally.settings_enumerated,
         tally.newick.calls,
         tally.written_out,
+        tally.histories.replayed,
+        tally.histories.lines,
+        tally.histories.listed,
+        tally.histories.in_lists,
         tally.mismatches
     )
 }

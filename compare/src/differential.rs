@@ -7,10 +7,10 @@ use crate::calls::Call;
 use crate::comparing::{Comparison, Enumerate, Lengths};
 use crate::families::{self, Family, Growth};
 use crate::random::Random;
-use crate::reference::{RESULT_BYTES, SCRATCH_WORDS};
+use crate::reference::{HISTORY_BYTES, RESULT_BYTES, SCRATCH_WORDS};
 use crate::tally::Tally;
 use crate::worked::Worked;
-use crate::{damage, limits, trees};
+use crate::{damage, extremes, limits, trees};
 
 /// How many sheets of each kind, how long at most, and from which seed.
 #[derive(Clone, Copy)]
@@ -41,6 +41,8 @@ pub fn run(bounds: Bounds) -> Tally {
     run.newick_families();
     run.newick_damage();
     run.newick_faults();
+    run.histories();
+    run.histories_damage();
     run.extremes();
     run.buffer_lengths();
     run.comparison.tally
@@ -105,11 +107,35 @@ impl Run {
         self.least("Newick: limits of the text", limits.into_iter().map(|case| case.call));
     }
 
+    fn histories(&mut self) {
+        use Enumerate::{No, Yes};
+        self.kind("history: small, listed", 12_000, Yes, |random| families::any(random, 7, 5).history());
+        self.kind("history: many ties, listed", 6_000, Yes, |random| families::tying(random, 7, 4).history());
+        self.kind("history: middling, listed if few", 2_000, Yes, |random| {
+            families::tying(random, 14, 10).history()
+        });
+        self.kind("history: of all sizes", 8_000, No, |random| families::any(random, 63, 64).history());
+        self.kind("history: many ties", 3_000, No, |random| families::tying(random, 63, 64).history());
+        self.kind("history: largest, 896 trials", 30, No, |random| largest(random, 31, 31).history());
+        self.kind("history: largest, fewer trials", 1_000, No, |random| largest(random, 0, 12).history());
+        self.least("history: the longest", [extremes::longest_history().history()]);
+    }
+
+    fn histories_damage(&mut self) {
+        for number in 3..=13 {
+            let name = format!("history: with a view to {number}");
+            self.kind(&name, 1_000, Enumerate::No, |random| Call::history(damage::aimed(random, number)));
+        }
+        let no = Enumerate::No;
+        self.kind("history: damaged at random", 5_000, no, |random| Call::history(damage::aimless(random)));
+        self.kind("history: random bytes", 2_000, no, |random| Call::history(damage::noise(random)));
+    }
+
     /// The sheet of the greatest cost, and valid sheets with bytes after them, up to and past the longest.
     fn extremes(&mut self) {
-        let costliest = families::costliest();
-        let calls = [costliest.plain(), costliest.newick()];
-        self.each("the costliest family, enumerated", calls, Enumerate::Yes, || Lengths::LEAST);
+        let costliest = extremes::costliest();
+        let calls = [costliest.plain(), costliest.newick(), costliest.history()];
+        self.each("the costliest family, enumerated", calls, Enumerate::Yes, Lengths::least);
         let random = &mut self.random();
         let sheets = [Growth::Deep, Growth::Wide].map(|growth| families::largest(random, 8, growth));
         self.least("longer than the longest", sheets.iter().flat_map(longer));
@@ -131,14 +157,20 @@ impl Run {
             Call::newick(sheet, "1".repeat(575)),
             Call::newick([], []),
         ];
-        let around = |limit: usize| (limit - 8..=limit + 8).chain([0, 1, 92, 93, limit / 2]);
-        let pairs: Vec<Lengths> = around(RESULT_BYTES)
+        self.all_lengths("all lengths around the limits", calls.into(), around(RESULT_BYTES));
+        let calls = vec![small.history(), largest(random, 2, 2).history(), Call::history([])];
+        let far_below = [RESULT_BYTES - 1, RESULT_BYTES, RESULT_BYTES + 1].into_iter();
+        let results = around(HISTORY_BYTES).chain(far_below);
+        self.all_lengths("history: lengths around the limits", calls, results);
+    }
+
+    fn all_lengths(&mut self, name: &str, calls: Vec<Call>, results: impl Iterator<Item = usize>) {
+        let pairs: Vec<Lengths> = results
             .flat_map(|result| around(SCRATCH_WORDS).map(move |scratch| Lengths { result, scratch }))
             .collect();
         let mut lengths = pairs.iter().copied().cycle();
         let repeated = calls.into_iter().flat_map(|call| vec![call; pairs.len()]);
-        let next = || lengths.next().expect("lengths without end");
-        self.each("all lengths around the limits", repeated, Enumerate::No, next);
+        self.each(name, repeated, Enumerate::No, |_| lengths.next().expect("lengths without end"));
     }
 
     fn random(&mut self) -> Random {
@@ -154,12 +186,12 @@ impl Run {
     fn kind(&mut self, name: &str, usual: u64, enumerate: Enumerate, make: impl Fn(&mut Random) -> Call) {
         let (random, lengths) = (&mut self.random(), &mut self.random());
         let calls = (0..self.share(usual)).map(|_| make(random));
-        self.each(name, calls, enumerate, || Lengths::ample(lengths));
+        self.each(name, calls, enumerate, |call| Lengths::ample(call, lengths));
     }
 
     /// With the least buffers.
     fn least(&mut self, name: &str, calls: impl IntoIterator<Item = Call>) {
-        self.each(name, calls, Enumerate::No, || Lengths::LEAST);
+        self.each(name, calls, Enumerate::No, Lengths::least);
     }
 
     /// Compares all calls of a kind, as far as the clock allows.
@@ -168,9 +200,10 @@ impl Run {
         name: &str,
         calls: impl IntoIterator<Item = Call>,
         enumerate: Enumerate,
-        mut lengths: impl FnMut() -> Lengths,
+        mut lengths: impl FnMut(&Call) -> Lengths,
     ) {
-        let counts = |tally: &Tally| [tally.calls(), tally.reports(), tally.enumerated];
+        let counts =
+            |tally: &Tally| [tally.calls(), tally.reports(), tally.enumerated + tally.histories.listed];
         let before = counts(&self.comparison.tally);
         let mut note = "";
         for call in calls {
@@ -179,12 +212,17 @@ impl Run {
                 note = "  (cut short by the clock)";
                 break;
             }
-            self.comparison.compare(&call, lengths(), enumerate);
+            self.comparison.compare(&call, lengths(&call), enumerate);
         }
         let after = counts(&self.comparison.tally);
         let [done, scored, enumerated] = [0, 1, 2].map(|i| after[i] - before[i]);
-        println!("  {name:<32} {done:>7} calls {scored:>7} scored {enumerated:>7} enumerated{note}");
+        println!("  {name:<34} {done:>7} calls {scored:>7} scored {enumerated:>7} enumerated{note}");
     }
+}
+
+/// Lengths around a limit, and some far below.
+fn around(limit: usize) -> impl Iterator<Item = usize> {
+    (limit - 8..=limit + 8).chain([0, 1, 92, 93, limit / 2])
 }
 
 /// A family of the largest size with so many transfers.

@@ -33,7 +33,29 @@ pub fn reticulations(sheet: &Sheet) -> usize {
     (1..=sheet.n).filter(|&v| sheet.secondary[v] != 0).count()
 }
 
-struct View<'a> {
+/// How many lines the report has.
+pub fn report_lines(sheet: &Sheet) -> usize {
+    2 + reticulations(sheet) + sheet.m
+}
+
+/// A step of a gene, by its event code: 0 to 3 as in the report, 4 a loss going down, 5 a loss by transfer, 6 a free pass.
+#[derive(Clone, Copy, PartialEq, Eq, PartialOrd, Ord, Debug)]
+pub struct Step {
+    pub code: u32,
+    /// Where the lower-numbered child starts, or the gene goes on.
+    pub first: usize,
+    /// Where the other child starts.
+    pub second: usize,
+}
+
+impl Step {
+    /// Whether the gene itself goes on to another node.
+    pub fn goes_on(&self) -> bool {
+        self.code >= 4
+    }
+}
+
+pub(crate) struct View<'a> {
     sheet: &'a Sheet,
     /// Source, target, and whether the arc is secondary.
     arcs: Vec<(usize, usize, bool)>,
@@ -52,7 +74,7 @@ struct Placed {
 }
 
 impl<'a> View<'a> {
-    fn new(sheet: &'a Sheet) -> Self {
+    pub(crate) fn new(sheet: &'a Sheet) -> Self {
         let mut arcs = Vec::new();
         let mut reticulations = Vec::new();
         for v in 1..=sheet.n {
@@ -83,7 +105,8 @@ impl<'a> View<'a> {
         self.arcs.iter().copied().filter(is_on).collect()
     }
 
-    fn gene_children(&self, g: usize) -> Vec<usize> {
+    /// The lower-numbered child first.
+    pub(crate) fn gene_children(&self, g: usize) -> Vec<usize> {
         (1..=self.sheet.m).filter(|&c| self.sheet.gene_parent[c] as usize == g).collect()
     }
 
@@ -170,41 +193,60 @@ impl<'a> View<'a> {
 
     /// The least cost that a single step of gene g at node v gives, the rest as `least` says.
     fn clauses(&self, least: &[Option<u32>], g: usize, v: usize) -> Option<u32> {
-        let sheet = self.sheet;
-        let at = |g: usize, v: usize| least[(g - 1) * sheet.n + v - 1];
-        let both = |g: usize, v: usize, h: usize, w: usize, toll: u32| Some(at(g, v)? + at(h, w)? + toll);
-        let principal: Vec<usize> = self.arcs.iter().filter(|a| a.0 == v && !a.2).map(|a| a.1).collect();
-        let secondary: Vec<usize> = self.arcs.iter().filter(|a| a.0 == v && a.2).map(|a| a.1).collect();
-        let mut costs: Vec<Option<u32>> = vec![];
+        let at = |g: usize, v: usize| least[(g - 1) * self.sheet.n + v - 1];
         let children = self.gene_children(g);
-        if children.is_empty() && self.leaf_of(g) == v {
-            costs.push(Some(0));
-        }
-        let pairs = match children[..] {
-            [a, b] => vec![(a, b), (b, a)],
-            _ => vec![],
+        let total = |step: &Step| {
+            let onward = match (step.goes_on(), &children[..]) {
+                (true, _) => at(g, step.first)?,
+                (false, &[a, b]) => at(a, step.first)? + at(b, step.second)?,
+                (false, _) => 0,
+            };
+            Some(onward + self.step_cost(step))
         };
-        for (a, b) in pairs {
-            costs.push(both(a, v, b, v, sheet.duplication));
-            if let [x, y] = principal[..] {
-                costs.push(both(a, x, b, y, 0));
+        self.steps(g, v).iter().filter_map(total).min()
+    }
+
+    /// The steps that the rules let gene g take at node v.
+    pub(crate) fn steps(&self, g: usize, v: usize) -> Vec<Step> {
+        let targets = |by_secondary: bool| -> Vec<usize> {
+            self.arcs.iter().filter(|a| a.0 == v && a.2 == by_secondary).map(|a| a.1).collect()
+        };
+        let (principal, secondary) = (targets(false), targets(true));
+        let mut steps = vec![];
+        let mut may = |code: u32, first: usize, second: usize| steps.push(Step { code, first, second });
+        match self.gene_children(g)[..] {
+            [_, _] => {
+                may(2, v, v);
+                if let [x, y] = principal[..] {
+                    may(1, x, y);
+                    may(1, y, x);
+                }
+                if let [s] = secondary[..] {
+                    for other in [v, principal[0]] {
+                        may(3, s, other);
+                        may(3, other, s);
+                    }
+                }
             }
-            if let [s] = secondary[..] {
-                costs.push(both(a, s, b, v, sheet.transfer));
-                costs.push(both(a, s, b, principal[0], sheet.transfer));
-            }
+            _ if self.leaf_of(g) == v => may(0, 0, 0),
+            _ => {}
         }
         if let [x, y] = principal[..] {
-            costs.push(at(g, x).map(|cost| cost + sheet.loss));
-            costs.push(at(g, y).map(|cost| cost + sheet.loss));
+            may(4, x, 0);
+            may(4, y, 0);
         }
         if let [s] = secondary[..] {
-            costs.push(at(g, s).map(|cost| cost + sheet.transfer + sheet.loss));
+            may(5, s, 0);
         }
         if let [x] = principal[..] {
-            costs.push(at(g, x));
+            may(6, x, 0);
         }
-        costs.into_iter().flatten().min()
+        steps
+    }
+
+    pub(crate) fn step_cost(&self, step: &Step) -> u32 {
+        let Sheet { duplication, transfer, loss, .. } = *self.sheet;
+        [0, 0, duplication, transfer, loss, transfer + loss, 0][step.code as usize]
     }
 
     /// The components as sets of nodes: an arc is cut when its ends are parted without it.

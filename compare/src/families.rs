@@ -365,6 +365,20 @@ pub fn any(random: &mut Random, most_events: usize, most_leaves: usize) -> Famil
     Family { costs: costs(random), nodes, genes }
 }
 
+/// A family of at most so many events (5 and more) and leaf genes, half of them with many transfers, at costs by which many histories cost the
+/// same.
+pub fn tying(random: &mut Random, most_events: usize, most_leaves: usize) -> Family {
+    let family = if random.once_in(2) {
+        any(random, most_events, most_leaves)
+    } else {
+        let transfers = random.within(1, (most_events - 3) / 2);
+        dense(random, transfers, most_leaves)
+    };
+    let costs =
+        [[0, 0, 0], [9, 0, 0], [1, 0, 0], [0, 9, 0], [0, 1, 1], [0, 3, 1], [0, 0, 1], [1, 1, 0], [2, 1, 1]];
+    Family { costs: *random.pick(&costs), ..family }
+}
+
 pub fn any_genes(random: &mut Random, nodes: &[Node], most_leaves: usize) -> Vec<Gene> {
     let mut species: Vec<u32> =
         nodes.iter().map(|node| node.species).filter(|&species| species != 0).collect();
@@ -418,28 +432,6 @@ pub fn largest(random: &mut Random, transfers: usize, growth: Growth) -> Family 
     let shape = *random.pick(&[GeneShape::Caterpillar, GeneShape::Balanced, GeneShape::Anyhow]);
     let genes = gene_tree(random, 64, shape, &species);
     Family { costs: costs(random), nodes, genes }
-}
-
-/// The family of the greatest cost: on a caterpillar of species, genes of the deepest leaf join one by one
-/// a pair of the deepest and the shallowest. All but one of its inner genes are duplications at the root.
-pub fn costliest() -> Family {
-    let species = 64;
-    let mut nodes = vec![Node::default()];
-    for depth in 1..species {
-        // The two lineages of the last inner node: a leaf, and the rest of the caterpillar.
-        let principal = nodes.len() as u32;
-        nodes.push(Node { principal, stamp: 999, species: depth, ..Node::default() });
-        let last = depth + 1 == species;
-        let (stamp, name) = if last { (999, species) } else { (depth, 0) };
-        nodes.push(Node { principal, stamp, species: name, ..Node::default() });
-    }
-    let mut genes = vec![Gene::default()];
-    for left in (0..species - 1).rev() {
-        let parent = genes.len() as u32;
-        genes.push(Gene { parent, species });
-        genes.push(Gene { parent, species: if left == 0 { 1 } else { 0 } });
-    }
-    Family { costs: [99; 3], nodes, genes }
 }
 
 /// A family as users have them: so many species and highways, and a gene tree that follows the network.

@@ -5,11 +5,11 @@ use std::path::{Path, PathBuf};
 use std::process::ExitCode;
 
 use compare::differential::{self, Bounds};
-use compare::{benchmark, corpus, newick_test, random_test};
+use compare::{benchmark, corpus, history_test, newick_test, random_test};
 
 const USAGE: &str =
     "compare [--seed N] [--percent N] [--seconds N] [--no-benchmark] [--write FILE --date DATE --kit LINE]
-compare --corpus FOLDER | --newick-test FOLDER | --newick-faults FOLDER | --random-test FILE
+compare --corpus FOLDER | --history-test FOLDER | --newick-test FOLDER | --newick-faults FOLDER | --random-test FILE
 
   --seed N        the seed of all sheets (1)
   --percent N     how many sheets, in percent of the usual number (100)
@@ -17,6 +17,7 @@ compare --corpus FOLDER | --newick-test FOLDER | --newick-faults FOLDER | --rand
   --no-benchmark  the differential run alone
   --write FILE    write the benchmarks as a page to FILE, with DATE and the kit's line; what it has below a head stays
   --corpus FOLDER write the sheets and the expected output of the test program score_test, and nothing else
+  --history-test FOLDER   the same of the test program history_test
   --newick-test FOLDER    the same of the test program newick_test
   --newick-faults FOLDER  the same of the test program newick_faults
   --random-test FILE  write the expected output of the test program random_test, and nothing else";
@@ -40,6 +41,7 @@ impl Renewal {
     fn of(word: &str, path: String) -> Option<Renewal> {
         let renew: fn(u64, &Path) -> io::Result<()> = match word {
             "--corpus" => corpus::write,
+            "--history-test" => history_test::write,
             "--newick-test" => newick_test::write,
             "--newick-faults" => |_, folder| newick_test::write_faults(folder),
             "--random-test" => |_, file| std::fs::write(file, random_test::lines()),

@@ -11,6 +11,15 @@ unsafe extern "C" {
         scratch_length: usize,
     ) -> usize;
 
+    fn lgt_score_history(
+        sheet: *const u8,
+        sheet_length: usize,
+        result: *mut u8,
+        result_length: usize,
+        scratch: *mut u32,
+        scratch_length: usize,
+    ) -> usize;
+
     fn lgt_score_newick(
         sheet: *const u8,
         sheet_length: usize,
@@ -40,7 +49,23 @@ pub fn score(sheet: &[u8], result: &mut [u8], scratch: &mut [u32]) -> u32 {
     u32::try_from(number).expect("a number of the paper")
 }
 
-/// The same of a sheet without gene lines and the text of a gene tree; 1 to 15 for a refusal.
+/// The same with a history behind the report; the bytes are those of both.
+pub fn score_history(sheet: &[u8], result: &mut [u8], scratch: &mut [u32]) -> u32 {
+    // SAFETY: as above.
+    let number = unsafe {
+        lgt_score_history(
+            sheet.as_ptr(),
+            sheet.len(),
+            result.as_mut_ptr(),
+            result.len(),
+            scratch.as_mut_ptr(),
+            scratch.len(),
+        )
+    };
+    u32::try_from(number).expect("a number of the paper")
+}
+
+/// What `score` gives, of a sheet without gene lines and the text of a gene tree; 1 to 15 for a refusal.
 pub fn score_newick(sheet: &[u8], tree: &[u8], result: &mut [u8], scratch: &mut [u32]) -> u32 {
     // SAFETY: as above, for four slices.
     let number = unsafe {

@@ -16,7 +16,7 @@ impl Case {
     /// The case of a call.
     pub fn new(name: String, call: &Call, output: String) -> Case {
         let files = match call {
-            Call::Plain(sheet) => vec![(".sheet", sheet.to_vec())],
+            Call::Plain(sheet) | Call::History(sheet) => vec![(".sheet", sheet.to_vec())],
             Call::Newick { sheet, tree } => vec![(".sheet", sheet.to_vec()), (".tree", tree.to_vec())],
         };
         Case { name, files, output }

@@ -60,7 +60,8 @@ impl Worked {
     }
 }
 
-fn line_fits(worked: &str, line: &str) -> bool {
+/// Whether a line has the numbers worked out, where `*` stands for any.
+pub fn line_fits(worked: &str, line: &str) -> bool {
     let (worked, line): (Vec<_>, Vec<_>) = (worked.split(' ').collect(), line.split_whitespace().collect());
     worked.len() == line.len()
         && worked.iter().zip(line).all(|(&field, found)| field == "*" || field == found)
@@ -90,7 +91,7 @@ pub const K_GENES: [Line; 5] =
     [[1, 0, 0, 0, 0], [2, 1, 1, 0, 0], [3, 1, 0, 0, 0], [4, 3, 2, 0, 0], [5, 3, 3, 0, 0]];
 
 /// The genes of case 4, ((3,2),2).
-const PAIR_FIRST: [Line; 5] =
+pub const PAIR_FIRST: [Line; 5] =
     [[1, 0, 0, 0, 0], [2, 1, 0, 0, 0], [3, 2, 3, 0, 0], [4, 2, 2, 0, 0], [5, 1, 2, 0, 0]];
 
 /// One gene, for sheets that are refused for their network.

@@ -3,8 +3,8 @@
 use crate::calls::Call;
 use crate::families::{self, Family, Gene, GeneShape, Growth, NetworkPlan, Node};
 use crate::random::Random;
-use crate::reference::{self, Answer, RESULT_BYTES, SCRATCH_WORDS};
-use crate::{damage, trees};
+use crate::reference::{self, Answer, HISTORY_BYTES, SCRATCH_WORDS};
+use crate::{damage, extremes, trees};
 
 /// Calls of one kind.
 pub struct Workload {
@@ -78,7 +78,7 @@ fn sheets(name: &str, count: usize, mut make: impl FnMut() -> Family) -> Workloa
 }
 
 fn scored(name: &str, calls: Vec<Call>) -> Workload {
-    let (mut result, mut scratch) = (vec![0; RESULT_BYTES], vec![0; SCRATCH_WORDS]);
+    let (mut result, mut scratch) = (vec![0; HISTORY_BYTES], vec![0; SCRATCH_WORDS]);
     let mut is_scored = |call: &Call| matches!(call.reference(&mut result, &mut scratch), Answer::Report(_));
     assert!(calls.iter().all(&mut is_scored), "{name}: a family is refused");
     Workload { name: name.to_string(), calls }
@@ -88,10 +88,10 @@ fn garbage(name: &str, count: usize, mut make: impl FnMut() -> Vec<u8>) -> Workl
     Workload { name: name.to_string(), calls: (0..count).map(|_| Call::plain(make())).collect() }
 }
 
-/// The families on which the Newick call is timed.
-pub fn newick(random: &mut Random) -> Vec<Workload> {
+/// The families on which another call is timed beside the plain one, each as that call takes it.
+fn beside(random: &mut Random, call: fn(&Family) -> Call) -> Vec<Workload> {
     let mut families = |name: &str, count: usize, make: fn(&mut Random) -> Family| {
-        scored(name, (0..count).map(|_| make(random).newick()).collect())
+        scored(name, (0..count).map(|_| call(&make(random))).collect())
     };
     vec![
         families("(a) typical: 11 species, 2 highways, 21 genes", 500, |random| {
@@ -104,11 +104,25 @@ pub fn newick(random: &mut Random) -> Vec<Workload> {
             families::largest(random, 0, Growth::Anywhere)
         }),
         families("(d) smallest: n = m = 1", 1, |_| smallest()),
-        families("(d) smallest network: n = 1, m = 127", 1, |_| {
-            let genes = families::gene_tree(&mut Random::new(1), 64, GeneShape::Balanced, &[999_999]);
-            Family { genes, ..smallest() }
-        }),
     ]
+}
+
+/// The families on which the Newick call is timed.
+pub fn newick(random: &mut Random) -> Vec<Workload> {
+    let mut all = beside(random, Family::newick);
+    let genes = families::gene_tree(&mut Random::new(1), 64, GeneShape::Balanced, &[999_999]);
+    let family = Family { genes, ..smallest() };
+    all.push(scored("(d) smallest network: n = 1, m = 127", vec![family.newick()]));
+    all
+}
+
+/// The families on which the call with a history is timed.
+pub fn histories(random: &mut Random) -> Vec<Workload> {
+    let mut all = beside(random, Family::history);
+    let deep = (0..30).map(|_| families::largest(random, 0, Growth::Deep).history()).collect();
+    all.push(scored("(c) no reticulation, deep: n = m = 127", deep));
+    all.push(scored("(e) longest history: 6,143 lines", vec![extremes::longest_history().history()]));
+    all
 }
 
 fn smallest() -> Family {

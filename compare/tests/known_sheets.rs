@@ -126,7 +126,7 @@ fn the_order_of_the_first_refusals() {
 /// No sheet costs more; six columns hold it.
 #[test]
 fn the_greatest_cost() {
-    let report = answer(&compare::families::costliest().text()).expect("a report");
+    let report = answer(&compare::extremes::costliest().text()).expect("a report");
     assert!(
         report.starts_with("398970    62     0  3968     0\n398970   127   127     0     0\n"),
         "{report}"

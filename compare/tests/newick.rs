@@ -48,7 +48,7 @@ fn worked_out_by_hand() {
     for name in known.iter().chain(&others) {
         let plain = worked::sheets().into_iter().find(|case| case.name == *name).expect("a known sheet");
         let newick = as_text.iter().find(|case| case.name == *name).expect("a known sheet as text");
-        assert_eq!(newick.call.written_out().as_ref(), Some(&plain.call), "{name}");
+        assert_eq!(newick.call.as_plain().as_ref(), Some(&plain.call), "{name}");
         assert_eq!(outcome(&newick.call), outcome(&plain.call), "{name}");
     }
 }
@@ -59,7 +59,7 @@ fn case_10_a_species_that_is_not_in_the_network() {
     genes[3][2] = 4;
     let newick = Call::newick(k([2, 3, 1]), "(1,(4,3));");
     let plain = Call::plain(worked::text([2, 3, 1], &K_NETWORK, &genes));
-    assert_eq!(newick.written_out().as_ref(), Some(&plain));
+    assert_eq!(newick.as_plain().as_ref(), Some(&plain));
     refused(&plain, 13);
     refused(&newick, 13);
 }

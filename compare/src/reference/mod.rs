@@ -1,6 +1,7 @@
 //! An implementation of the rules in ordinary Rust, written from the papers and not from the proved code.
 
 pub mod genes;
+pub mod history;
 pub mod network;
 pub mod newick;
 pub mod report;
@@ -15,6 +16,9 @@ use sheet::Sheet;
 /// The least scratch, in words of 32 bits, and the least result, in bytes, that a caller may lend.
 pub const SCRATCH_WORDS: usize = 16_129;
 pub const RESULT_BYTES: usize = 5_952;
+
+/// The least result of the call that writes a history behind the report.
+pub const HISTORY_BYTES: usize = 600_000;
 
 /// Why a sheet is refused; the value is the paper's number.
 #[derive(Clone, Copy, PartialEq, Eq, Debug)]
@@ -56,40 +60,52 @@ impl Answer {
 
 /// Scores one family sheet. On a refusal neither `result` nor `scratch` is touched.
 pub fn score(text: &[u8], result: &mut [u8], scratch: &mut [u32]) -> Answer {
-    match lent(result, scratch).and_then(|()| judge(text)) {
+    match lent(result, RESULT_BYTES, scratch).and_then(|()| judge(text)) {
         Err(refusal) => Answer::Refused(refusal),
-        Ok(judged) => write(&judged, result, scratch),
+        Ok(judged) => Answer::Report(write(&judged, result, scratch)),
+    }
+}
+
+/// Scores one family sheet and writes a cheapest history behind the report. On a refusal neither `result` nor
+/// `scratch` is touched.
+pub fn score_history(text: &[u8], result: &mut [u8], scratch: &mut [u32]) -> Answer {
+    match lent(result, HISTORY_BYTES, scratch).and_then(|()| judge(text)) {
+        Err(refusal) => Answer::Refused(refusal),
+        Ok(judged) => {
+            let report = write(&judged, result, scratch);
+            Answer::Report(report + history::write(&judged, scratch, &mut result[report..]))
+        }
     }
 }
 
 /// Scores a sheet without gene lines with the gene tree of a Newick text. On a refusal neither `result` nor
 /// `scratch` is touched.
 pub fn score_newick(text: &[u8], tree: &[u8], result: &mut [u8], scratch: &mut [u32]) -> Answer {
-    match lent(result, scratch).and_then(|()| judge_newick(text, tree)) {
+    match lent(result, RESULT_BYTES, scratch).and_then(|()| judge_newick(text, tree)) {
         Err(refusal) => Answer::Refused(refusal),
-        Ok(judged) => write(&judged, result, scratch),
+        Ok(judged) => Answer::Report(write(&judged, result, scratch)),
     }
 }
 
 /// All that scoring needs of a family to which no refusal applies.
 pub type Judged = (Sheet, Network, GeneTree);
 
-/// Refusals 1 and 2.
-fn lent(result: &[u8], scratch: &[u32]) -> Result<(), Refusal> {
+/// Refusals 1 and 2, the latter where the result is under so many bytes.
+fn lent(result: &[u8], least: usize, scratch: &[u32]) -> Result<(), Refusal> {
     if scratch.len() < SCRATCH_WORDS {
         return Err(Refusal::ShortScratch);
     }
-    if result.len() < RESULT_BYTES {
+    if result.len() < least {
         return Err(Refusal::ShortResult);
     }
     Ok(())
 }
 
-/// The search, the whole-network table and the report.
-fn write((sheet, network, genes): &Judged, result: &mut [u8], scratch: &mut [u32]) -> Answer {
+/// The search, the whole-network table and the report; gives the bytes of the report.
+fn write((sheet, network, genes): &Judged, result: &mut [u8], scratch: &mut [u32]) -> usize {
     let outcome = search::run(sheet, network, genes);
     let whole_cost = whole::fill(sheet, network, genes, scratch);
-    Answer::Report(report::write(network, genes, &outcome, whole_cost, result))
+    report::write(network, genes, &outcome, whole_cost, result)
 }
 
 /// Refusals 3 to 13 in their order, or all that scoring needs.

@@ -50,7 +50,7 @@ pub fn write(
 }
 
 /// Writes one line into what is left of the result, and gives what is left after it.
-fn line(rest: &mut [u8], numbers: [u32; FIELDS]) -> &mut [u8] {
+pub(super) fn line(rest: &mut [u8], numbers: [u32; FIELDS]) -> &mut [u8] {
     let (line, rest) = rest.split_at_mut(LINE);
     for (columns, number) in line.chunks_exact_mut(FIELD).zip(numbers) {
         field(columns, number);

@@ -9,11 +9,23 @@ pub const NO_HISTORY: u32 = u32::MAX;
 
 /// What leaves a node. Nodes are counted from 0 here, as the words of a row are.
 #[derive(Clone, Copy)]
-enum Arcs {
+pub(super) enum Arcs {
     None,
     Principal(u8),
     TwoPrincipal(u8, u8),
     PrincipalAndSecondary(u8, u8),
+}
+
+impl Arcs {
+    pub(super) fn out_of(network: &Network, v: u8) -> Arcs {
+        let number = usize::from(v) + 1;
+        match (network.children[number], network.recipient[number]) {
+            ([0, _], _) => Arcs::None,
+            ([x, 0], 0) => Arcs::Principal(x - 1),
+            ([x, 0], s) => Arcs::PrincipalAndSecondary(x - 1, s - 1),
+            ([x, y], _) => Arcs::TwoPrincipal(x - 1, y - 1),
+        }
+    }
 }
 
 /// Fills the first n × m words of `scratch`, a row a gene, and gives the least cost of gene 1 at any node.
@@ -37,15 +49,7 @@ pub fn fill(sheet: &Sheet, network: &Network, genes: &GeneTree, scratch: &mut [u
 
 /// The nodes, the target of each arc before its source, with what leaves them.
 fn targets_first(network: &Network) -> impl Iterator<Item = (u8, Arcs)> {
-    network.order.iter().rev().map(move |&v| {
-        let arcs = match (network.children[usize::from(v)], network.recipient[usize::from(v)]) {
-            ([0, _], _) => Arcs::None,
-            ([x, 0], 0) => Arcs::Principal(x - 1),
-            ([x, 0], s) => Arcs::PrincipalAndSecondary(x - 1, s - 1),
-            ([x, y], _) => Arcs::TwoPrincipal(x - 1, y - 1),
-        };
-        (v - 1, arcs)
-    })
+    network.order.iter().rev().map(move |&number| (number - 1, Arcs::out_of(network, number - 1)))
 }
 
 /// A leaf gene rests at the leaf of its species and moves on elsewhere.
@@ -89,6 +93,6 @@ fn fill_inner_row(sheet: &Sheet, arcs: &[(u8, Arcs)], a: &[u32], b: &[u32], row:
     }
 }
 
-fn plus(a: u32, b: u32) -> u32 {
+pub(super) fn plus(a: u32, b: u32) -> u32 {
     a.saturating_add(b)
 }

@@ -110,6 +110,7 @@ fn order_nodes(network: SoundNetwork) -> Column
 
 // The arcs of a network. Above zeros the next child is the lowest.
 #[tactic(auto, unfolding(finite::specs::Tables::zeros))]
+#[inline(always)]
 pub fn lay(network: SoundNetwork) -> Arcs
     ensures { Laid (nodes_of network.entry.lines.now) result }
 {

@@ -28,7 +28,7 @@ pub fn clipped(c: usize) -> u32
 
 // An event of cost c, then the history of the gene with this row from v on.
 #[tactic(auto, using(crate::proofs::Sums::then_at))]
-fn after(row: &[u32], c: usize, v: usize) -> usize
+pub fn after(row: &[u32], c: usize, v: usize) -> usize
     requires { (c ≤ 198) × Cell row.now v }
     ensures { cost_in result ≡ then c (cost_at row.now v) }
 {
@@ -56,7 +56,7 @@ pub struct Children<'a> {
 impl Children<'_> {
     // An event of cost c, then the histories of the left child from u and of the right child from v on.
     #[tactic(auto, using(crate::proofs::Sums::both_at))]
-    fn both(self, c: usize, u: usize, v: usize) -> usize
+    pub fn both(self, c: usize, u: usize, v: usize) -> usize
         requires { (c ≤ 198) × Cell self.left.now u × Cell self.right.now v }
         ensures { cost_in result ≡ both c (left_cost self.entry u) (right_cost self.entry v) }
     {

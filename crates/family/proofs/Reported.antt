@@ -27,9 +27,10 @@ use Rattle.readings.proofs.Pieces.{pieces, trials_summed, with_any}
 use Rattle.report.specs.Reports.{SmallTotals, report_length}
 use Rattle.report.proofs.Writing.{length_report}
 use Rattle.acceptance.specs.inner.Admitted.{Admitted}
-use Rattle.acceptance.proofs.Mapped.{sound, rooted, seated, optimal, component_few, cost_small, duplications_small, transfers_small, losses_small, trials_small, parent_small, place_small, event_few, gene_transfers_small, gene_losses_small}
+use Rattle.acceptance.proofs.Mapped.{sound, rooted, seated, optimal, component_few, cost_small, duplications_small, transfers_small, losses_small, trials_small, reticulations_small, parent_small, place_small, event_few, gene_transfers_small, gene_losses_small}
 use Rattle.acceptance.proofs.Genes.{genes_of_lem}
 use Rattle.acceptance.proofs.Whole.{whole_accepted}
+use Rattle.family.specs.Buffers.{least_bytes}
 use Rattle.family.specs.Families.{Contents, network_in, gene_tree_in, family_in, reported}
 use Rattle.family.specs.Reports.{totals_in, report_in, SixColumns, Reported}
 
@@ -113,11 +114,15 @@ module _ (X : Contents) (admitted : Admitted X.nodes X.genes X.costs) where
     whole = overall_least X.nodes X.genes (gene_tree_in X) X.costs (whole_accepted X.nodes X.genes X.costs admitted);
   }
 
-  -- a report has two lines and one for each gene at least
-  bytes_are : length (report_in X) ≡ report_length L.size K.count (is_reticulation (network_in X))
-  unfolding report_in
+  -- a report has two lines and one for each gene at least; the least result has room for it
+  bytes_are : length (report_in X) ≡ report_length L.size K.count (is_reticulation N)
+  unfolding report_in network_in
   bytes_are = length_report _ _ _ _ _ _ _ _ _ _ _ _
 
   pub report_least : 93 ≤ length (report_in X)
   unfolding report_length
   report_least = omega (arith, admitted.limits.some_gene, bytes_are)
+
+  pub report_most : length (report_in X) ≤ least_bytes
+  unfolding report_length
+  report_most = omega (arith, bytes_are, reticulations_small L K C admitted, admitted.limits.few_genes)

@@ -1,7 +1,7 @@
 -- The report of a family that no refusal applies to. Its network and gene tree are what the search asks for; the last state of the search is the chosen
 -- switching, so the tables that are written hold the report's numbers, each of which has a field.
 -- Assumes nothing.
-use Rattle.std.proofs.Common.{◌≡◌, ℕ, ◌*◌, ◌≤◌, ◌<◌, List, ◌++◌, length, drop, false, not, refl, sym, ap, ◌∙◌, arith, mul-le-mul, le_trans}
+use Rattle.std.proofs.Common.{◌≡◌, ℕ, ◌*◌, ◌≤◌, ◌<◌, List, ◌++◌, length, drop, false, not, refl, sym, ap, ◌∙◌, subst, arith}
 use mathlib.Core.Path.{fun_ext}
 use Rattle.finite.specs.Tests.{same, tally}
 use Rattle.finite.specs.Range.{count}
@@ -43,6 +43,7 @@ use Rattle.histories.specs.Words.{word, words}
 use Rattle.histories.specs.Histories.{overall}
 use Rattle.histories.specs.Families.{family_of}
 use Rattle.histories.specs.inner.Promise.{WholeNetwork}
+use Rattle.whole_network.specs.declared.source.Source.{Source}
 use Rattle.whole_network.specs.inner.Stages.{AcceptedIn}
 use Rattle.whole_network.specs.inner.Stages as W
 use Rattle.acceptance.specs.inner.Admitted.{Admitted}
@@ -54,12 +55,21 @@ use Rattle.report.specs.inner.Tables.{reticulation_in, tabled_report, SmallNodes
 use Rattle.report.proofs.Writing.{length_report, report_same}
 use Rattle.family.specs.Families.{Contents, network_in, gene_tree_in, family_in, reported}
 use Rattle.family.specs.Reports.{totals_in, report_in}
-use Rattle.family.specs.inner.Stages.{contents_by, Sized, Passed, totals_by, Written}
+use Rattle.family.specs.inner.Stages.{contents_by, Sized, Passed, totals_by, SourceOf, Written}
 
 -- what is no reticulation is set by no setting
 plain : (N : Network) (r : ℕ) → N.secondary r ≡ 0 → (c y : ℕ) → setting_of N c y r ≡ false
 unfolding setting_of member_of is_reticulation
 plain N r e c y = rw (is_same e)
+
+-- a source of the lines and of the genes that are built from them
+pub is_source : (lines : Lines) (genes : Genes) (f : Source) → (f.lines.now ≡ lines) × (f.genes.now ≡ genes)
+    → gene_tree lines.header.genes genes ≡ gene_tree_of (nodes_of lines) (genes_of lines) → SourceOf lines f
+is_source lines genes f e t = record { same_lines = e.0; tree = rw e.1 t }
+
+-- what is filled from a source of the lines is theirs
+pub filled_from : (lines : Lines) (f : Source) → SourceOf lines f → {y z : List ℕ} {r : ℕ} → WholeNetwork (W.family f) y z r → WholeNetwork (W.family_in lines f.genes.now) y z r
+filled_from lines f s {y} {z} {r} t = subst (λ (l : Lines). WholeNetwork (W.family_in l f.genes.now) y z r) s.same_lines t
 
 module _ (network : PartedNetwork) (b w : ℕ) (S : Sized network.lines.now.header b w) (P : Passed (contents_by network.lines.now)) where
   abbrev lines : Lines
@@ -119,9 +129,6 @@ module _ (network : PartedNetwork) (b w : ℕ) (S : Sized network.lines.now.head
     -- the whole-network table
     pub whole_ready : AcceptedIn lines genes
     whole_ready = rw tree_is (whole_accepted L K C admitted)
-
-    pub whole_room : h.genes * h.nodes ≤ w
-    whole_room = le_trans (mul-le-mul lines.within.few_genes lines.within.few_nodes) S.space
 
     module _ (y z : List ℕ) (r : ℕ) (T : WholeNetwork (W.family_in lines genes) y z r) where
       whole_network : WholeNetwork (family_in X) y z r

@@ -2,7 +2,7 @@
 #![tactic(auto)]
 
 ghost use Rattle.std.specs.Prelude.{◌≡◌, length};
-ghost use Rattle.family.specs.inner.Stages.{contents_by, Sized, Passed, totals_by, Written};
+ghost use Rattle.family.specs.inner.Stages.{contents_by, Sized, Passed, totals_by, SourceOf, Written};
 
 use layout::choices::Choices;
 use layout::networks::PartedNetwork;
@@ -12,6 +12,7 @@ use report::{Tabled, Totals};
 use search::given::Given;
 use search::{Found, Work};
 use tables::{ENTRIES, UNSET, ZEROS, count_some};
+use whole_network::source::Source;
 
 // The numbers of the report's first two lines.
 fn totals(network: PartedNetwork, found: Found, whole: u32) -> Totals
@@ -33,17 +34,21 @@ fn totals(network: PartedNetwork, found: Found, whole: u32) -> Totals
     }
 }
 
-// Searches, fills the table of the whole network and writes the report of a family that no refusal applies to; returns the bytes of the report. (Inlined, as
-// `sheet::read_lines`: the tables of the search share their room with those of the lines.)
+// Searches, fills the table of the whole network and writes the report of a family that no refusal applies to, from its genes and arcs; returns the bytes of
+// the report. (Inlined, as `sheet::read_lines`: the tables of the search share their room with those of the lines.)
 #[inline(always)]
-pub fn write(network: PartedNetwork, res: &mut [u8], scratch: &mut [u32]) -> usize
-    requires { Sized network.lines.now.header (length res.old) (length scratch.old) × Passed (contents_by network.lines.now) }
+pub fn write_from(
+    network: PartedNetwork,
+    source: &Source,
+    res: &mut [u8],
+    scratch: &mut [u32],
+) -> usize
+    requires { Sized network.lines.now.header (length res.old) (length scratch.old) × Passed (contents_by network.lines.now) × SourceOf network.lines.now source.now }
     ensures { Written (contents_by network.entry.lines.now) res.old res.new scratch.old scratch.new result }
 {
-    let genes = gene_tree::build(network.lines);
     let given = Given {
         network,
-        genes: &genes,
+        genes: source.genes,
     };
     let mut work = Work {
         choices: Choices {
@@ -59,7 +64,7 @@ pub fn write(network: PartedNetwork, res: &mut [u8], scratch: &mut [u32]) -> usi
         results: [UNPLACED; ENTRIES],
     };
     let found = given.run(&mut work);
-    let whole = whole_network::fill(network.lines, &genes, scratch);
+    let whole = source.fill(scratch);
     let t = totals(network, found, whole);
     let tabled = Tabled {
         lines: network.lines,
@@ -68,4 +73,15 @@ pub fn write(network: PartedNetwork, res: &mut [u8], scratch: &mut [u32]) -> usi
         results: &work.results,
     };
     report::write_report(res, t, &tabled)
+}
+
+// The same, when nothing else asks for the genes and the arcs.
+#[inline(always)]
+pub fn write(network: PartedNetwork, res: &mut [u8], scratch: &mut [u32]) -> usize
+    requires { Sized network.lines.now.header (length res.old) (length scratch.old) × Passed (contents_by network.lines.now) }
+    ensures { Written (contents_by network.entry.lines.now) res.old res.new scratch.old scratch.new result }
+{
+    let genes = gene_tree::build(network.lines);
+    let source = whole_network::source_of(network.lines, &genes);
+    write_from(network, &source, res, scratch)
 }

@@ -22,6 +22,8 @@ use Rattle.std.proofs.lemmas.List.Elements.{filter-append}
 use Rattle.finite.specs.Range.{any, count, sum, first}
 use Rattle.finite.specs.Tests.{same, tally}
 use Rattle.finite.proofs.Tests.{is_same, not_same}
+use Rattle.finite.proofs.Cases.{by_eq}
+use Rattle.std.specs.Prelude.{unwrap_or}
 
 -- the numbers 1 to n come, in this order
 pub upto : {s : Range ℕ} (n : ℕ) → s ≡ record { start = 1; end = n + 1 } → YieldsList nat_range_steps (λ x. x) s (range_with_len 1 n)
@@ -94,3 +96,7 @@ pub first_upto : {F : Type 0} {s : Range ℕ} {f : F} {g : Mut F (Bor ℕ × Uni
     → s ≡ record { start = 1; end = n + 1 }
     → ((x : ℕ) (b : Bool) (q : F) → CalledAt g f x b q → (q ≡ f) × (b ≡ test x)) → r ≡ cond (same (first n test) 0) None (Some (first n test))
 first_upto {f = f} {r = r} u n test ran e calls = sym (option_map_id r) ∙ find_from_yields_List test u f r ran (upto n e) calls ∙ find_list test n
+
+-- the number found, 0 where none is
+pub found_or : (r : ℕ) → unwrap_or (cond (same r 0) None (Some r)) 0 ≡ r
+found_or r = by_eq r 0 (λ z. rw (is_same z) (sym z)) (λ d. rw (not_same d))

@@ -1,13 +1,14 @@
 -- What is read of the columns is what the definitions ask for: at a number of a gene or a node the lines by number are read where they stand.
 -- Assumes nothing.
-use Rattle.std.proofs.Common.{◌≡◌, ℕ, ◌≤◌, ◌<◌, List, Option, Some, None, cond, ◌||◌, refl, sym, ap, ◌∙◌, arith}
+use Rattle.std.proofs.Common.{◌≡◌, ℕ, ◌≤◌, ◌<◌, List, Option, Some, None, cond, ◌||◌, refl, ap, ◌∙◌, arith}
 use Rattle.std.specs.Prelude.{unwrap_or}
 use Rattle.finite.specs.Tests.{same}
 use Rattle.finite.specs.Range.{any, first}
 use Rattle.finite.specs.Tables.{at}
 use Rattle.finite.proofs.Cases.{by_eq}
-use Rattle.finite.proofs.Tests.{is_same, not_same, is_under}
+use Rattle.finite.proofs.Tests.{not_same, is_under}
 use Rattle.finite.proofs.Every.{first_same, some_same}
+use Rattle.finite.proofs.Upto.{found_or}
 use Rattle.tables.specs.Children.{is_next, next}
 use Rattle.layout.specs.declared.lines.NodeColumns.{NodeColumns}
 use Rattle.layout.specs.declared.lines.GeneColumns.{GeneColumns}
@@ -19,16 +20,12 @@ use Rattle.gene_tree.specs.Genes.{leaf_of}
 use Rattle.gene_tree.specs.inner.Work.{ChildCounts, Bearers}
 use Rattle.gene_tree.proofs.Refusals.{bearer_in}
 
--- the lowest node of species s, where the search for one comes to o
-found : (r : ℕ) → unwrap_or (cond (same r 0) None (Some r)) 0 ≡ r
-found r = by_eq r 0 (λ z. rw (is_same z) (sym z)) (λ d. rw (not_same d))
-
 -- a species' bearer, looked up for each number up to n, and sought; it is a node, or 0
 module _ (n : ℕ) (l : NodeColumns) (s : ℕ) where
   pub sought_read : (o : Option ℕ) → o ≡ cond (same (first n (λ v. same (at l.species v) s)) 0) None (Some (first n (λ v. same (at l.species v) s)))
       → unwrap_or o 0 ≡ next n (nodes_in n l).species 0 s
   unfolding next is_next
-  sought_read o e = ap (λ (q : Option ℕ). unwrap_or q 0) e ∙ found (first n (λ v. same (at l.species v) s))
+  sought_read o e = ap (λ (q : Option ℕ). unwrap_or q 0) e ∙ found_or (first n (λ v. same (at l.species v) s))
       ∙ first_same n _ _ (λ v a b. rw (species_in n l v a b, is_under {m = 0} {n = v} (omega arith)))
 
   pub bearer_noted : (c : List ℕ) → Bearers (nodes_in n l) c → s ≤ n → at c s ≡ bearer (nodes_in n l) s

@@ -50,7 +50,7 @@ module _ {F : Family} {order : ℕ → ℕ} (P : Prepared F order) where
   open P use {graded, limits, schedule}
 
   -- a word that stands for a least cost is small; a gene's row begins at the place r
-  cell_least : (s : List ℕ) (g r v : ℕ) → r ≡ (g - 1) * nodes → genes * nodes ≤ length s → 1 ≤ g → g ≤ genes → 1 ≤ v → v ≤ nodes → row nodes s g v ≡ least F g v → Cell (drop r s) v
+  pub cell_least : (s : List ℕ) (g r v : ℕ) → r ≡ (g - 1) * nodes → genes * nodes ≤ length s → 1 ≤ g → g ≤ genes → 1 ≤ v → v ≤ nodes → row nodes s g v ≡ least F g v → Cell (drop r s) v
   unfolding cell
   cell_least s g r v er l lg ug lv uv e = record {
     node_low = lv;

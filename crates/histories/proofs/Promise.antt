@@ -60,6 +60,11 @@ module _ (L : NodeLines) (K : GeneLines) (G : GeneTree) (C : Costs) (ok : Accept
   pub each_word : (g v : ℕ) → 1 ≤ g → g ≤ F.genes → 1 ≤ v → v ≤ F.nodes → (rest : List ℕ) → Least F g v (cost_of (get_or (words F ++ rest) (cell F.nodes g v) 0))
   each_word g v lg ug lv uv rest = rw (table_word F g v lg ug lv uv rest, word_tells (least F g v) (least_low g v)) (is_least F (graded L K G C ok) g v)
 
+  -- so it is read as the least costs, whatever follows it
+  pub words_hold : (rest : List ℕ) → Rows F (words F ++ rest) 0
+  unfolding row
+  words_hold rest = record { holds = λ g v lg ug lv uv. rw (table_word F g v (omega arith) ug lv uv rest) (word_tells (least F g v) (least_low g v)) }
+
   -- words that were s and begin with the table now, and the least cost returned, keep the promise
   pub whole_network : (s u : List ℕ) → u ≡ words F ++ drop (F.genes * F.nodes) s → WholeNetwork F s u (word (overall F))
   whole_network s u e = record {

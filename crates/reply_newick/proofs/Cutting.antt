@@ -7,6 +7,7 @@ use Rattle.finite.proofs.Cases.{by_eq, by_less}
 use Rattle.finite.proofs.Refusals.{verdict_first, verdict_tail, verdict_idle}
 use Rattle.finite.proofs.Tests.{is_under, not_same}
 use Rattle.family.specs.Buffers.{least_words, least_bytes}
+use Rattle.family.specs.Reports.{report_in}
 use Rattle.layout.specs.declared.Header.{Header}
 use Rattle.sheet.specs.Sheets.{refusal3}
 use Rattle.network.specs.Refusals.{network_refusals}
@@ -23,12 +24,16 @@ use Rattle.score_newick.proofs.Readings.{four_passes}
 use Rattle.score_newick.proofs.Refusals.{only_its_own, refusal_3, refusal_4, refusal_5, curators_pass, none_passes, no_others}
 use Rattle.reply.specs.Replies.{longest_sheet}
 use Rattle.reply.proofs.Replying.{Alike, alike_refused}
-use Rattle.reply.proofs.Cutting.{room, space, header_kept, limits_kept, too_long, cut_by}
+use Rattle.reply.proofs.Cutting.{space, header_kept, limits_kept, too_long, cut_by}
 use Rattle.reply_newick.specs.Replies.{longest_text}
 
 -- with buffers that 1 and 2 do not refuse
 abbrev pub verdict_of : (s x : List ℕ) → ℕ
 verdict_of s x = refusal s x least_bytes least_words
+
+-- what is written where none refuses
+abbrev pub report_of : (s x : List ℕ) → List ℕ
+report_of s x = report_in (contents_of s x)
 
 -- the sheet
 four_kept : (s : List ℕ) (k : ℕ) → longest_sheet < k → k < length s → refusal3 s ≡ false → refusal4 (take k s) ≡ refusal4 s
@@ -39,11 +44,11 @@ five_beyond : (t : List ℕ) → longest_sheet < length t → refusal3 t ≡ fal
 unfolding refusal5
 five_beyond t l f e = let w = (four_passes t e).0 in rw (too_long t _ 0 l w.few_nodes (omega arith))
 
-pub cut_sheet : (x s : List ℕ) (k : ℕ) → longest_sheet < k → Alike (verdict_of (take k s) x) (contents_of (take k s) x) (verdict_of s x) (contents_of s x)
-cut_sheet x s k l = cut_by (λ s. verdict_of s x) (λ s. contents_of s x) refusal4 refusal5
-    (λ t. refusal_3 t x least_bytes least_words space room)
-    (λ t. refusal_4 t x least_bytes least_words space room)
-    (λ t. refusal_5 t x least_bytes least_words space room)
+pub cut_sheet : (x s : List ℕ) (k : ℕ) → longest_sheet < k → Alike (verdict_of (take k s) x) (report_of (take k s) x) (verdict_of s x) (report_of s x)
+cut_sheet x s k l = cut_by (λ s. verdict_of s x) (λ s. report_of s x) refusal4 refusal5
+    (λ t. refusal_3 t x least_bytes least_words space (omega arith))
+    (λ t. refusal_4 t x least_bytes least_words space (omega arith))
+    (λ t. refusal_5 t x least_bytes least_words space (omega arith))
     four_kept five_beyond s k l
 
 -- a text that is too long
@@ -72,16 +77,16 @@ module _ (s x : List ℕ) (long : longest_text < length x) where
 module _ (s x y : List ℕ) (long_x : longest_text < length x) (long_y : longest_text < length y) where
   same_verdict : verdict_of s x ≡ verdict_of s y
   unfolding refusal refusals curator_refusals
-  same_verdict = verdict_tail (buffer_refusals least_bytes least_words) _ _ (verdict_tail (sheet_refusals s) _ _
+  same_verdict = verdict_tail (buffer_refusals least_words least_bytes least_bytes least_words) _ _ (verdict_tail (sheet_refusals s) _ _
       (verdict_tail (network_refusals (contents_of s x).nodes) _ _ (verdict_tail (component_refusals (contents_of s x).nodes) _ _
       (fifteen s x long_x _ ∙ sym (fifteen s y long_y _)))))
 
-  pub same_long : Alike (verdict_of s x) (contents_of s x) (verdict_of s y) (contents_of s y)
+  pub same_long : Alike (verdict_of s x) (report_of s x) (verdict_of s y) (report_of s y)
   same_long = by_eq (verdict_of s x) 0
       (λ z. absurd (some_refusal s x long_x z))
-      (λ d. alike_refused (verdict_of s x) (contents_of s x) (contents_of s y) (omega arith) refl (sym same_verdict))
+      (λ d. alike_refused (verdict_of s x) (report_of s x) (report_of s y) (omega arith) refl (sym same_verdict))
 
-pub cut_text : (s x : List ℕ) (k : ℕ) → longest_text < k → Alike (verdict_of s (take k x)) (contents_of s (take k x)) (verdict_of s x) (contents_of s x)
+pub cut_text : (s x : List ℕ) (k : ℕ) → longest_text < k → Alike (verdict_of s (take k x)) (report_of s (take k x)) (verdict_of s x) (report_of s x)
 cut_text s x k l = by_less k (length x)
     (λ more. same_long s (take k x) x (omega (arith, length-take-le k x (omega arith))) (omega arith))
     (λ u. rw (take_all k x u) (record { verdict = refl; reply = refl }))

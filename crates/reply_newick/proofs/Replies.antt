@@ -9,6 +9,7 @@ use Rattle.finite.proofs.Tests.{not_same}
 use Rattle.family.specs.Buffers.{least_words, least_bytes}
 use Rattle.refusals.specs.declared.Refusal.{Refusal}
 use Rattle.refusals.specs.Numbers.{refused}
+use Rattle.family.specs.Reports.{report_in}
 use Rattle.score_newick.specs.Refusals.{contents_of, refusal}
 use Rattle.score_newick.specs.Outcome.{Promise}
 use Rattle.reply.specs.Replies.{longest_sheet, reply_by, Writes, ReadInto}
@@ -28,8 +29,8 @@ module _ (sheet tree : List ℕ) (sheet_bytes tree_bytes : ℕ) {d e u t : List 
 
   written_reply : Writes (reply_of s x) d (told_in e r) (told_bytes r)
   unfolding reply_of refusal
-  written_reply = subst (λ (k : ℕ). Writes (reply_by (refusal s x k least_words) (contents_of s x)) d (told_in e r) (told_bytes r)) ld
-      (subst (λ (k : ℕ). Writes (reply_by (refusal s x (length d) k) (contents_of s x)) d (told_in e r) (told_bytes r)) lu (writes r p.call))
+  written_reply = subst (λ (k : ℕ). Writes (reply_by (refusal s x k least_words) (report_in (contents_of s x))) d (told_in e r) (told_bytes r)) ld
+      (subst (λ (k : ℕ). Writes (reply_by (refusal s x (length d) k) (report_in (contents_of s x))) d (told_in e r) (told_bytes r)) lu (writes r p.call))
 
   -- the verdict that the answer tells
   verdict_is : refused r ≡ verdict_of s x
@@ -38,7 +39,7 @@ module _ (sheet tree : List ℕ) (sheet_bytes tree_bytes : ℕ) {d e u t : List 
 
   -- a sheet and a text that were read into the two rooms
   module _ (w y : List ℕ) (read : ReadInto sheet sheet_bytes w) (read_tree : ReadInto tree tree_bytes y) where
-    alike : Alike (verdict_of s x) (contents_of s x) (verdict_of w y) (contents_of w y)
+    alike : Alike (verdict_of s x) (report_in (contents_of s x)) (verdict_of w y) (report_in (contents_of w y))
     alike = rw (← read, ← read_tree) (then_alike (cut_sheet (take (length tree) y) w (length sheet) long) (cut_text w y (length tree) long_tree))
 
     same_reply : reply_of s x ≡ reply_of w y

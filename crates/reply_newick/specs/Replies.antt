@@ -5,13 +5,14 @@ use Rattle.std.specs.Prelude.{ℕ, Bool, ◌&&◌, ◌≡◌, ◌≤◌, List, [
 use Rattle.std.specs.List.{ends_with}
 use Rattle.finite.specs.Tests.{same}
 use Rattle.family.specs.Buffers.{least_words, least_bytes}
+use Rattle.family.specs.Reports.{report_in}
 use Rattle.score_newick.specs.Refusals.{contents_of, refusal}
 use Rattle.reply.specs.Replies.{reply_by, Writes, ReadInto}
 use Rattle.reply_newick.specs.declared.Reply.{Reply}
 
 -- with buffers that 1 and 2 do not refuse
 unfoldable pub reply_of : (sheet text : List ℕ) → List ℕ
-reply_of s x = reply_by (refusal s x least_bytes least_words) (contents_of s x)
+reply_of s x = reply_by (refusal s x least_bytes least_words) (report_in (contents_of s x))
 
 -- "a text of at most 574 bytes"
 abbrev pub longest_text : ℕ

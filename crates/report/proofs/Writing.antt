@@ -1,13 +1,13 @@
 -- The turns of the loops that write lines one after the other: a line put behind those written so far is one line more (`lines_turn`), and as
 -- many lines as pass the test take that many times 31 bytes (`length_lines`).
 -- Assumes nothing.
-use Rattle.std.proofs.Common.{◌≡◌, ℕ, zero, suc, ◌+◌, ◌-◌, ◌*◌, ◌≤◌, ◌<◌, Bool, true, false, cond, List, [], ◌++◌, length, get_or, length-append, Option, Some, IfSome, refl, sym, ap, ◌∙◌, subst, arith, add-one}
+use Rattle.std.proofs.Common.{◌≡◌, ℕ, zero, suc, ◌+◌, ◌-◌, ◌*◌, ◌≤◌, ◌<◌, Bool, true, false, cond, List, [], ◌++◌, length, length-append, Option, Some, IfSome, refl, sym, ap, ◌∙◌, subst, arith, add-one}
 use Rattle.finite.specs.Tests.{tally}
 use Rattle.finite.specs.Range.{count}
 use Rattle.finite.proofs.Sum.{sum_suc, sum_more, sum_range_le, sum_zero_range}
 use Rattle.columns.specs.Writing.{put, written}
 use Rattle.text_lines.specs.Lines.{line_length, line_of, Small}
-use Rattle.text_lines.proofs.Lines.{length_line}
+use Rattle.text_lines.proofs.Lines.{length_line, small_of_five}
 use Rattle.columns.proofs.Writing.{put_put, put_written, put_nil, put_front}
 use Rattle.topology.specs.Networks.{is_reticulation}
 use Rattle.topology.specs.Lines.{network}
@@ -28,15 +28,7 @@ use Rattle.report.specs.Reports.{five_of, totals_lines, lines_where, always, ret
 
 -- five numbers that have fields
 pub small_five : (a b c d e : ℕ) (ns : List ℕ) → ns ≡ five_of a b c d e → SmallFive a b c d e → Small ns
-small_five a b c d e ns q h = rw q (record { small = at_each })
-  where
-    at_each : (i : ℕ) → get_or (five_of a b c d e) i 0 < 1000000
-    at_each zero = h.one
-    at_each (suc zero) = h.two
-    at_each (suc (suc zero)) = h.three
-    at_each (suc (suc (suc zero))) = h.four
-    at_each (suc (suc (suc (suc zero)))) = h.five
-    at_each (suc (suc (suc (suc (suc i))))) = omega arith
+small_five a b c d e ns q h = rw q (small_of_five a b c d e h.one h.two h.three h.four h.five)
 
 -- the two lines of totals
 module _ (t : Totals) (h : SmallTotals t) where

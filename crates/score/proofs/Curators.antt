@@ -1,5 +1,6 @@
--- The refusals 1 and 2, and those of the network's curator, before whatever other refusals a call has behind them: each test tells its condition, and the
--- verdicts of the parts, one after the other, are the verdict of the whole list. 11 asks for the components, which a sound network has.
+-- The refusals 1 and 2, by the figures of a call, and those of the network's curator, before whatever refusals a call has behind them: each test
+-- tells its condition, and the verdicts of the parts, one after the other, are the verdict of the whole list. 11 asks for the components, which a sound
+-- network has.
 -- Assumes nothing.
 use Rattle.std.proofs.Common.{ℕ, ◌≤◌, ◌<◌, ◌≡◌, sym, ◌∙◌, ◌↔◌, true, List, ◌++◌, arith}
 use Rattle.finite.specs.Tests.{under}
@@ -17,7 +18,6 @@ use Rattle.network.proofs.Acceptance.{accepted}
 use Rattle.network.proofs.Readings.{network_tells}
 use Rattle.components.specs.Refusals.{component_refusals}
 use Rattle.components.proofs.Readings.{components_tell}
-use Rattle.family.specs.Buffers.{least_words, least_bytes}
 use Rattle.score.specs.Refusals.{buffer_refusals}
 
 under_iff : (m n : ℕ) → (under m n ≡ true) ↔ (m < n)
@@ -27,12 +27,12 @@ under_iff m n = (under_is m n, λ l. is_under l)
 pub some_number : (k : ℕ) → 1 ≤ k → k ≡ 0 → ⊥
 some_number k l q = omega arith
 
-module _ (bytes words : ℕ) where
-  pub buffers_tell : AllTell (buffer_refusals bytes words)
+module _ (least_scratch least_result bytes words : ℕ) where
+  pub buffers_tell : AllTell (buffer_refusals least_scratch least_result bytes words)
   unfolding buffer_refusals
-  buffers_tell = one_more (tell 1 (omega arith, omega arith) (under_iff words least_words)) (λ _. one_more (tell 2 (omega arith, omega arith) (under_iff bytes least_bytes)) (λ _. no_more))
+  buffers_tell = one_more (tell 1 (omega arith, omega arith) (under_iff words least_scratch)) (λ _. one_more (tell 2 (omega arith, omega arith) (under_iff bytes least_result)) (λ _. no_more))
 
-  pub buffers_fit : verdict (buffer_refusals bytes words) ≡ 0 → (least_words ≤ words) × (least_bytes ≤ bytes)
+  pub buffers_fit : verdict (buffer_refusals least_scratch least_result bytes words) ≡ 0 → (least_scratch ≤ words) × (least_result ≤ bytes)
   unfolding buffer_refusals
   buffers_fit e =
       let a = verdict_none _ _ (λ q. some_number 1 (omega arith) q) e in
@@ -40,16 +40,16 @@ module _ (bytes words : ℕ) where
       (under_not _ _ a.0, under_not _ _ b.0)
 
   module _ (rest : List Refusal) where
-    pub short_scratch : words < least_words → verdict (buffer_refusals bytes words ++ rest) ≡ 1
+    pub short_scratch : words < least_scratch → verdict (buffer_refusals least_scratch least_result bytes words ++ rest) ≡ 1
     unfolding buffer_refusals
     short_scratch l = verdict_here _ _ (is_under l)
 
-    module _ (space : least_words ≤ words) where
-      pub short_result : bytes < least_bytes → verdict (buffer_refusals bytes words ++ rest) ≡ 2
+    module _ (space : least_scratch ≤ words) where
+      pub short_result : bytes < least_result → verdict (buffer_refusals least_scratch least_result bytes words ++ rest) ≡ 2
       unfolding buffer_refusals
       short_result l = verdict_later _ _ (not_under space) ∙ verdict_here _ _ (is_under l)
 
-      pub ample : least_bytes ≤ bytes → verdict (buffer_refusals bytes words ++ rest) ≡ verdict rest
+      pub ample : least_result ≤ bytes → verdict (buffer_refusals least_scratch least_result bytes words ++ rest) ≡ verdict rest
       unfolding buffer_refusals
       ample room = verdict_later _ _ (not_under space) ∙ verdict_later _ _ (not_under room)
 

@@ -1,7 +1,7 @@
--- The outcome of each way out of the call. A refusal leaves both buffers as they were; the tests before it failed, so it is the first that applies; and a
--- sheet that none applies to has its report written.
+-- The outcome of each way out of a call on a sheet. A refusal leaves both buffers as they were; the tests before it failed, so it is the first that applies;
+-- and a sheet that none applies to has its piece written.
 -- Assumes nothing.
-use Rattle.std.proofs.Common.{◌≡◌, ℕ, ◌+◌, ◌≤◌, ◌<◌, List, length, true, false, not, sym, ap, ◌∙◌, subst, arith, Result, Ok, Err, IsErrAnd}
+use Rattle.std.proofs.Common.{◌≡◌, ℕ, ◌+◌, ◌≤◌, List, length, true, false, not, sym, ap, ◌∙◌, subst, arith, Result, Ok, Err, IsErrAnd}
 use Rattle.finite.specs.Tables.{at, zeros, filled, within}
 use Rattle.finite.specs.Refusals.{verdict}
 use Rattle.finite.proofs.Tables.{within_same, filled_in, zeros_long}
@@ -9,30 +9,47 @@ use Rattle.finite.proofs.Cases.{by_bool}
 use Rattle.std.proofs.lemmas.Bool.{not-false}
 use Rattle.topology.specs.Lines.{network}
 use Rattle.topology.specs.Networks.{Sound}
-use Rattle.layout.specs.Lines.{nodes_in, genes_in}
+use Rattle.layout.specs.Lines.{nodes_in, genes_in, nodes_of, genes_of}
 use Rattle.layout.specs.Headers.{WithinLimits}
 use Rattle.layout.specs.declared.Header.{Header}
 use Rattle.layout.specs.declared.lines.NodeColumns.{NodeColumns}
 use Rattle.layout.specs.declared.lines.Lines.{Lines}
 use Rattle.network.specs.Refusals.{network_refusals}
+use Rattle.network.specs.inner.Accepted.{NoOthers}
 use Rattle.network.proofs.Acceptance as Acceptance
+use Rattle.components.specs.Refusals.{component_refusals}
 use Rattle.components.specs.inner.Filling.{Dated}
+use Rattle.gene_tree.specs.Refusals.{gene_refusals}
 use Rattle.sheet.specs.Sheets.{header_in, nodes, genes, line_no, limits, refusal3, refusal4, refusal5, header_of, cell, formed, node_columns, gene_columns, LinesRead}
 use Rattle.refusals.specs.declared.Refusal.{Refusal}
-use Rattle.refusals.specs.declared.Refusal.TheVariants.{ShortScratch, ShortResult, NoHeader, BeyondLimits, BadLines}
-use Rattle.refusals.specs.Numbers.{number}
-use Rattle.refusals.proofs.Numbers.{handed_on}
+use Rattle.refusals.specs.declared.Refusal.TheVariants.{NoHeader, BeyondLimits}
+use Rattle.refusals.specs.Numbers.{number, refused}
+use Rattle.refusals.proofs.Numbers.{some, handed_on}
 use Rattle.sheet.proofs.Limits.{limits_is}
 use Rattle.sheet.proofs.Refusals.{cell_small}
 use Rattle.family.specs.Families.{Contents}
-use Rattle.family.specs.Buffers.{least_words, least_bytes}
-use Rattle.family.specs.inner.Stages.{contents_by}
+use Rattle.family.specs.Buffers.{least_words}
+use Rattle.family.specs.inner.Stages.{contents_by, Overwritten}
 use Rattle.score.specs.Contents.{node_lines, gene_lines, contents_of}
-use Rattle.score.specs.Refusals.{curator_refusals, refusal}
-use Rattle.answer.specs.Outcome.{Outcome}
-use Rattle.answer.proofs.Answers.{refuses}
-use Rattle.score.specs.inner.Stages.{Numbered, OutcomeBy, OutcomeOf}
-use Rattle.score.proofs.Refusals.{refusal_1, refusal_2, refusal_3, refusal_4, refusal_5, refusal_later}
+use Rattle.score.specs.Refusals.{first_refusals, curator_refusals}
+use Rattle.answer.specs.Outcome.{OutcomeWriting}
+use Rattle.answer.proofs.Answers.{refuses, reports}
+use Rattle.score.specs.inner.Stages.{LinesOf, ReadBy, Ready, OutcomeBy, OutcomeOf}
+use Rattle.score.proofs.Refusals.{network_refuses, component_refuses, genes_refuse, early, later, refusal_3, refusal_4, refusal_5, refusal_none, buffers_pass}
+
+-- reading refuses, or comes to lines
+module _ {least b w : ℕ} {s : List ℕ} where
+  pub unread : (r : Refusal) → verdict (first_refusals least s b w) ≡ number r → ReadBy least s b w (Err r)
+  unread r e = record { told = sym e; lines = λ l q. absurd (apart q) }
+    where
+      apart : {l : Lines} {r : Refusal} → ◌≡◌ {A = Result Lines Refusal} (Err r) (Ok l) → ⊥
+      apart q = cc
+
+  read_lines : (l : Lines) → verdict (first_refusals least s b w) ≡ 0 → LinesOf s l → ReadBy least s b w (Ok l)
+  read_lines l e p = record { told = sym e; lines = λ k q. subst (LinesOf s) (alike q) p }
+    where
+      alike : {k l : Lines} → ◌≡◌ {A = Result Lines Refusal} (Ok k) (Ok l) → k ≡ l
+      alike q = cc
 
 -- what an accepted header says
 pub record HeaderIs (s : List ℕ) (h : Header) : Type 0 where
@@ -55,12 +72,13 @@ header_is s h e = by_bool (refusal3 s) (λ t. no_header (rw t at e)) (λ t.
     kind : {g h : Header} → ◌≡◌ {A = Result Header Refusal} (Ok g) (Ok h) → g ≡ h
     kind e = cc
 
-pub header_refused : (s : List ℕ) (r : Refusal) → Err r ≡ header_of s → (b w : ℕ) → least_bytes ≤ b → least_words ≤ w → refusal s b w ≡ number r
+-- what reading the header refuses, of a call that asks for so many bytes of result
+pub header_refused : (least : ℕ) (s : List ℕ) (r : Refusal) → Err r ≡ header_of s → (b w : ℕ) → least ≤ b → least_words ≤ w → verdict (first_refusals least s b w) ≡ number r
 unfolding header_of
-header_refused s r e b w lb lw = by_bool (refusal3 s)
-    (λ t. let q : r ≡ NoHeader = kind (rw t at e) in refusal_3 s b w lw lb t ∙ ap number (sym q))
+header_refused least s r e b w lb lw = by_bool (refusal3 s)
+    (λ t. let q : r ≡ NoHeader = kind (rw t at e) in refusal_3 least s b w lw lb t ∙ ap number (sym q))
     (λ t. by_bool (refusal4 s)
-    (λ f. let q : r ≡ BeyondLimits = kind (rw (t, f) at e) in refusal_4 s b w lw lb t f ∙ ap number (sym q))
+    (λ f. let q : r ≡ BeyondLimits = kind (rw (t, f) at e) in refusal_4 least s b w lw lb t f ∙ ap number (sym q))
     (λ f. no_header (sym (rw (t, f) at e))))
   where
     kind : {q : Refusal} → ◌≡◌ {A = Result Header Refusal} (Err r) (Err q) → r ≡ q
@@ -74,7 +92,7 @@ module _ (s : List ℕ) (h : Header) (k : HeaderIs s h) where
   few_genes = subst (λ (x : Header). x.genes ≤ 127) k.header k.limited.few_genes
 
   -- what 5 finds amiss, and where it finds nothing
-  pub amiss : formed s h.nodes h.genes ≡ false → refusal5 s ≡ true
+  amiss : formed s h.nodes h.genes ≡ false → refusal5 s ≡ true
   unfolding refusal5
   amiss e = let f : formed s (nodes s) (genes s) ≡ false = rw k.header at e in rw f
 
@@ -117,35 +135,59 @@ module _ (s : List ℕ) (h : Header) (k : HeaderIs s h) where
     unfolding contents_of
     contents_are = rw (header_same, nodes_same, genes_same) (rw (nodes_are, genes_are))
 
-    pub numbered : (b w : ℕ) → least_bytes ≤ b → least_words ≤ w → Numbered lines b w
-    numbered b w lb lw = record {
-      sized = record { limits = subst WithinLimits (sym R.1) k.limited; room = lb; space = lw };
-      stamps = rw (header_same, nodes_same) stamps_small;
-    }
+    of_sheet : LinesOf s lines
+    of_sheet = record { contents = contents_are; limits = subst WithinLimits (sym R.1) k.limited; stamps = rw (header_same, nodes_same) stamps_small }
 
-    -- the outcome of the lines is the sheet's
-    pub five_passed : (d e u t : List ℕ) (r : Result ℕ Refusal) → least_bytes ≤ length d → least_words ≤ length u → OutcomeBy lines d e u t r → OutcomeOf s d e u t r
-    five_passed d e u t r lb lw o =
-        let q = refusal_later s (length d) (length u) lw lb k.three k.four (well R.0) in
-        rw q (subst (λ (X : Contents). Outcome (verdict (curator_refusals X)) X d e u t r) contents_are o)
-
-  pub five_refused : (d u : List ℕ) → least_bytes ≤ length d → least_words ≤ length u → refusal5 s ≡ true → OutcomeOf s d d u u (Err BadLines)
-  five_refused d u lb lw t = refuses _ BadLines (contents_of s) d u (refusal_5 s (length d) (length u) lw lb k.three k.four t)
-
--- the outcomes before the header
-pub words_refused : (s d u : List ℕ) → length u < least_words → OutcomeOf s d d u u (Err ShortScratch)
-words_refused s d u l = refuses _ ShortScratch (contents_of s) d u (refusal_1 s (length d) (length u) l)
-
-pub bytes_refused : (s d u : List ℕ) → least_words ≤ length u → length d < least_bytes → OutcomeOf s d d u u (Err ShortResult)
-bytes_refused s d u lw l = refuses _ ShortResult (contents_of s) d u (refusal_2 s (length d) (length u) lw l)
-
-pub header_outcome : (s d u : List ℕ) (r : Refusal) → Err r ≡ header_of s → least_bytes ≤ length d → least_words ≤ length u → OutcomeOf s d d u u (Err r)
-header_outcome s d u r e lb lw = refuses _ r (contents_of s) d u (header_refused s r e (length d) (length u) lb lw)
+  -- what reading the lines comes to
+  pub lines_outcome : (least b w : ℕ) → least ≤ b → least_words ≤ w → (x : Result Lines Refusal) → LinesRead s h x → ReadBy least s b w x
+  lines_outcome least b w lb lw (Ok lines) R = read_lines lines (refusal_none least s b w lw lb k.three k.four (well R.0)) (of_sheet lines R)
+  lines_outcome least b w lb lw (Err r) R = unread r (refusal_5 least s b w lw lb k.three k.four (amiss R.0) ∙ ap number (sym R.1))
 
 -- a network that passes 6 to 10 is sound
-pub sound_in : (n : ℕ) (l : NodeColumns) → verdict (network_refusals (nodes_in n l)) ≡ 0 → Sound (network (nodes_in n l))
-sound_in n l e = (Acceptance.accepted (nodes_in n l) (Acceptance.no_others n l) e).sound
+pub sound_in : (n : ℕ) (l : NodeColumns) → 0 ≡ verdict (network_refusals (nodes_in n l)) → Sound (network (nodes_in n l))
+sound_in n l e = (Acceptance.accepted (nodes_in n l) (Acceptance.no_others n l) (sym e)).sound
 
 -- a refusal that `?` hands on is the outcome where it is the first that applies
-pub refused_by : (k : ℕ) (X : Contents) (d u : List ℕ) (x : Result ℕ Refusal) (r : Refusal) → IsErrAnd x (λ q. q ≡ r) → k ≡ number r → Outcome k X d d u u x
+pub refused_by : (k : ℕ) (X : Contents) {piece : List ℕ} (d u : List ℕ) (x : Result ℕ Refusal) (r : Refusal) → IsErrAnd x (λ q. q ≡ r) → k ≡ number r → OutcomeWriting k X piece d d u u x
 refused_by k X d u x r h e = rw (handed_on x r h) (refuses k r X d u e)
+
+-- the curators' checks of a call that writes a piece, one after the other: the refusal of one is the outcome where those before it have passed, and what is
+-- written is where all have
+module _ (piece : Contents → List ℕ) (lines : Lines) (d u : List ℕ) where
+  abbrev alone : NoOthers (nodes_of lines)
+  alone = Acceptance.no_others lines.header.nodes lines.nodes
+
+  pub by_network : (x : Result ℕ Refusal) (r : Refusal) → IsErrAnd x (λ q. q ≡ r) → number r ≡ verdict (network_refusals (nodes_of lines)) → OutcomeBy piece lines d d u u x
+  by_network x r h e = refused_by _ _ d u x r h (network_refuses (contents_by lines) alone r e)
+
+  module _ (network : 0 ≡ verdict (network_refusals (nodes_of lines))) where
+    pub by_components : (x : Result ℕ Refusal) (r : Refusal) → IsErrAnd x (λ q. q ≡ r) → number r ≡ verdict (component_refusals (nodes_of lines)) → OutcomeBy piece lines d d u u x
+    by_components x r h e = refused_by _ _ d u x r h (component_refuses (contents_by lines) alone (sym network) r e)
+
+    module _ (component : 0 ≡ verdict (component_refusals (nodes_of lines))) where
+      pub by_genes : (x : Result ℕ Refusal) (r : Refusal) → IsErrAnd x (λ q. q ≡ r) → number r ≡ verdict (gene_refusals (nodes_of lines) (genes_of lines)) → OutcomeBy piece lines d d u u x
+      by_genes x r h e = refused_by _ _ d u x r h (genes_refuse (contents_by lines) alone (sym network) (sym component) (number r) e)
+
+      pub by_none : 0 ≡ verdict (gene_refusals (nodes_of lines) (genes_of lines)) → (e t : List ℕ) (b : ℕ) → Overwritten (contents_by lines) (piece (contents_by lines)) d e u t b
+          → OutcomeBy piece lines d e u t (Ok b)
+      by_none n e t b w = reports _ _ d e u t b (genes_refuse (contents_by lines) alone (sym network) (sym component) 0 n) w
+
+-- a call on a sheet s that asks for so many bytes of result, and writes a piece of what it scores: reading the lines comes to a
+module _ (least : ℕ) (piece : Contents → List ℕ) (s d u : List ℕ) {a : Result Lines Refusal} (S : ReadBy least s (length d) (length u) a) where
+  pub not_read : (r : Refusal) → a ≡ Err r → (x : Result ℕ Refusal) → IsErrAnd x (λ q. q ≡ r) → OutcomeOf least piece s d d u u x
+  not_read r q x h = refused_by _ (contents_of s) d u x r h (early least s _ _ (number r) (some r) (sym S.told ∙ ap refused q))
+
+  module _ (lines : Lines) (q : a ≡ Ok lines) where
+    abbrev first_none : verdict (first_refusals least s (length d) (length u)) ≡ 0
+    first_none = sym S.told ∙ ap refused q
+
+    pub ready : Ready least lines (length d) (length u)
+    ready =
+        let p = buffers_pass least s (length d) (length u) first_none in
+        let l = S.lines lines q in
+        record { limits = l.limits; stamps = l.stamps; room = p.1; space = p.0 }
+
+    -- the outcome of the lines is the sheet's
+    pub lines_scored : (e t : List ℕ) (x : Result ℕ Refusal) → OutcomeBy piece lines d e u t x → OutcomeOf least piece s d e u t x
+    lines_scored e t x o = rw (later least s (length d) (length u) first_none)
+        (subst (λ (X : Contents). OutcomeWriting (verdict (curator_refusals X)) X (piece X) d e u t x) (S.lines lines q).contents o)

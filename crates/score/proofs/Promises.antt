@@ -1,7 +1,8 @@
--- The promise of the call follows from its outcome (crate answer): its refusals' tests tell their conditions, their numbers go up to 13, and a sheet that
--- none applies to is admitted to the theorems.
+-- The promise of a call on a sheet follows from its outcome (crate answer): its refusals' tests tell their conditions, their numbers go up to 13, and a
+-- sheet that none applies to is admitted to the theorems.
 -- Assumes nothing.
-use Rattle.std.proofs.Common.{ℕ, ◌≡◌, List, length, arith}
+use Rattle.std.proofs.Common.{ℕ, ◌≤◌, ◌≡◌, List, length, arith}
+use Rattle.finite.specs.Refusals.{least_report, verdict}
 use Rattle.finite.proofs.Refusals.{Low, verdict_low}
 use Rattle.std.proofs.lemmas.Bool.{not-false}
 use Rattle.layout.specs.Headers.{WithinLimits}
@@ -16,28 +17,32 @@ use Rattle.gene_tree.specs.Refusals.{gene_refusals, species_refusals}
 use Rattle.acceptance.specs.inner.Admitted.{Admitted}
 use Rattle.std.specs.Prelude.{Result}
 use Rattle.refusals.specs.declared.Refusal.{Refusal}
+use Rattle.family.specs.Buffers.{least_bytes}
+use Rattle.family.specs.Families.{Contents}
+use Rattle.family.specs.Reports.{report_in}
+use Rattle.family.proofs.Reported.{report_least}
 use Rattle.answer.proofs.Promises as Call
 use Rattle.score.specs.Contents.{node_lines, gene_lines, contents_of}
-use Rattle.score.specs.Refusals.{buffer_refusals, text_refusals, curator_refusals, refusals, refusal}
-use Rattle.score.specs.Outcome.{Promise}
+use Rattle.score.specs.Refusals.{buffer_refusals, text_refusals, first_refusals, curator_refusals, refusals_of}
+use Rattle.score.specs.Outcome.{PromiseOfSheet, Promise}
 use Rattle.score.specs.inner.Stages.{OutcomeOf}
-use Rattle.score.proofs.Refusals.{all_tells, text_passes, curators_pass, none_passes}
+use Rattle.score.proofs.Refusals.{all_tells, text_passes, all_pass, none_passes}
 
 -- a number that is no node has no parents
 pub no_others : (s : List ℕ) → NoOthers (contents_of s).nodes
 unfolding contents_of node_lines
 no_others s = none_outside _ _ _ _ _
 
--- a sheet that no refusal applies to
-module _ (s : List ℕ) (b w : ℕ) (e : refusal s b w ≡ 0) where
+-- a sheet that no refusal of a call applies to, whatever result the call asks for
+module _ (least : ℕ) (s : List ℕ) (b w : ℕ) (e : verdict (refusals_of least s b w) ≡ 0) where
   within : WithinLimits (header_in s)
   unfolding refusal4
-  within = limits_is _ (not-false _ (text_passes s b w e).1)
+  within = limits_is _ (not-false _ (text_passes least s b w (all_pass least s b w e).0).1)
 
-  admitted : Admitted (contents_of s).nodes (contents_of s).genes (contents_of s).costs
+  pub admitted : Admitted (contents_of s).nodes (contents_of s).genes (contents_of s).costs
   unfolding contents_of node_lines gene_lines
   admitted =
-      let p = none_passes (contents_of s) (no_others s) (curators_pass s b w e) in
+      let p = none_passes (contents_of s) (no_others s) (all_pass least s b w e).1 in
       record {
         limits = within;
         others = no_others s;
@@ -47,14 +52,19 @@ module _ (s : List ℕ) (b w : ℕ) (e : refusal s b w ≡ 0) where
       }
 
 -- a refusal's number is at most 13
-all_low : (s : List ℕ) (b w : ℕ) → Low 13 (refusals s b w)
-unfolding Low refusals buffer_refusals text_refusals curator_refusals network_refusals after_six shape_refusals after_eight component_refusals gene_refusals species_refusals
-all_low s b w = (omega arith, (omega arith, (omega arith, (omega arith, (omega arith, (omega arith, (omega arith, (omega arith, (omega arith, (omega arith, (omega arith, (omega arith, (omega arith, tt)))))))))))))
+pub all_low : (least : ℕ) (s : List ℕ) (b w : ℕ) → Low 13 (refusals_of least s b w)
+unfolding Low refusals_of first_refusals buffer_refusals text_refusals curator_refusals network_refusals after_six shape_refusals after_eight component_refusals gene_refusals species_refusals
+all_low least s b w = (omega arith, (omega arith, (omega arith, (omega arith, (omega arith, (omega arith, (omega arith, (omega arith, (omega arith, (omega arith, (omega arith, (omega arith, (omega arith, tt)))))))))))))
 
-pub promise : (s d e u t : List ℕ) (r : Result ℕ Refusal) → OutcomeOf s d e u t r → Promise s d e u t r
-unfolding refusal
-promise s d e u t r o =
+-- of a call that writes a piece of the length of a report at least
+pub promise_of_sheet : (least : ℕ) (piece : Contents → List ℕ) → ((X : Contents) → Admitted X.nodes X.genes X.costs → least_report ≤ length (piece X))
+    → (s d e u t : List ℕ) (r : Result ℕ Refusal) → OutcomeOf least piece s d e u t r → PromiseOfSheet least piece s d e u t r
+promise_of_sheet least piece long s d e u t r o =
     let b : ℕ = length d in
     let w : ℕ = length u in
-    let rs = refusals s b w in
-    Call.promise 13 rs (contents_of s) (all_tells s b w (no_others s)) (verdict_low 13 rs (all_low s b w)) (admitted s b w) d e u t r o
+    let X : Contents = contents_of s in
+    let rs = refusals_of least s b w in
+    Call.promise_writing 13 rs X (all_tells least s b w (no_others s)) (verdict_low 13 rs (all_low least s b w)) (admitted least s b w) (piece X) (λ z. long X (admitted least s b w z)) d e u t r o
+
+pub promise : (s d e u t : List ℕ) (r : Result ℕ Refusal) → OutcomeOf least_bytes report_in s d e u t r → Promise s d e u t r
+promise = promise_of_sheet least_bytes report_in report_least

@@ -11,11 +11,12 @@ use Rattle.family.specs.Families.{Contents}
 use Rattle.family.specs.Buffers.{least_words, least_bytes}
 use Rattle.score.specs.Contents.{contents_of}
 
--- "The calling program": "scratch under 16,129 words of 32 bits", "result under 5,952 bytes", of a result of so many bytes and a scratch of so many words
-unfoldable pub buffer_refusals : (bytes words : ℕ) → List Refusal
-buffer_refusals bytes words =
-    record { number = 1; test = under words least_words; condition = words < least_words }
-    ∷ record { number = 2; test = under bytes least_bytes; condition = bytes < least_bytes }
+-- "The calling program": "scratch under .. words of 32 bits", "result under .. bytes", by the least scratch and the least result that a call asks for, of
+-- a result of so many bytes and a scratch of so many words
+unfoldable pub buffer_refusals : (least_scratch least_result bytes words : ℕ) → List Refusal
+buffer_refusals least_scratch least_result bytes words =
+    record { number = 1; test = under words least_scratch; condition = words < least_scratch }
+    ∷ record { number = 2; test = under bytes least_result; condition = bytes < least_result }
     ∷ []
 
 -- "The typist"
@@ -30,9 +31,17 @@ text_refusals s =
 unfoldable pub curator_refusals : Contents → List Refusal
 curator_refusals X = network_refusals X.nodes ++ (component_refusals X.nodes ++ gene_refusals X.nodes X.genes)
 
-unfoldable pub refusals : List ℕ → (bytes words : ℕ) → List Refusal
-refusals s bytes words = buffer_refusals bytes words ++ (text_refusals s ++ curator_refusals (contents_of s))
+-- what is asked before the lines: of a call with a scratch of 16,129 words and a result of so many bytes at least
+unfoldable pub first_refusals : (least_result : ℕ) → List ℕ → (bytes words : ℕ) → List Refusal
+first_refusals least_result s bytes words = buffer_refusals least_words least_result bytes words ++ text_refusals s
+
+unfoldable pub refusals_of : (least_result : ℕ) → List ℕ → (bytes words : ℕ) → List Refusal
+refusals_of least_result s bytes words = first_refusals least_result s bytes words ++ curator_refusals (contents_of s)
+
+-- 5,952 bytes
+abbrev pub refusals : List ℕ → (bytes words : ℕ) → List Refusal
+refusals s bytes words = refusals_of least_bytes s bytes words
 
 -- "the first that applies is given", 0 where none applies
-unfoldable pub refusal : List ℕ → (bytes words : ℕ) → ℕ
+abbrev pub refusal : List ℕ → (bytes words : ℕ) → ℕ
 refusal s bytes words = verdict (refusals s bytes words)

@@ -9,9 +9,10 @@
 extern "C" {
 #endif
 
-/* The least buffers: with less, a call refuses with 1 or 2. */
+/* The least buffers: with less, a call refuses with 1 or 2. The call with the history asks for a larger result, of which it writes at most 505,951 bytes. */
 #define LGT_SCORE_SCRATCH_WORDS 16129
 #define LGT_SCORE_RESULT_BYTES 5952
+#define LGT_SCORE_HISTORY_RESULT_BYTES 600000
 
 /* The longest sheet: every longer text is refused, so a reader of sheets needs room for one byte more. */
 #define LGT_SCORE_SHEET_BYTES 7905
@@ -23,7 +24,7 @@ extern "C" {
 #define LGT_SCORE_NEWICK_SHEET_BYTES 3968
 #define LGT_SCORE_TREE_BYTES 574
 
-/* A report has at least three lines of 31 bytes: an answer below this is a refusal, every other is how many bytes the report has. */
+/* A report has at least three lines of 31 bytes: an answer below this is a refusal, every other is how many bytes were written. */
 #define LGT_SCORE_REPORT_BYTES 93
 
 /* The word of the table where a gene has no history from a node. Every cost is below 1,000,000. */
@@ -31,11 +32,11 @@ extern "C" {
 
 /*
  * The refusals, in the order of checking, where 14 and 15 come just before 12; docs/RULES.md has each condition, its usual cause and
- * its cure. lgt_score gives 1 to 13. lgt_score_newick gives 1 to 15, and never 12: the genes of a text are a tree.
+ * its cure. lgt_score and lgt_score_history give 1 to 13. lgt_score_newick gives 1 to 15, and never 12: the genes of a text are a tree.
  */
 enum lgt_score_refusal {
     LGT_SCORE_REFUSED_SCRATCH = 1,          /* scratch under 16,129 words */
-    LGT_SCORE_REFUSED_RESULT = 2,           /* result under 5,952 bytes */
+    LGT_SCORE_REFUSED_RESULT = 2,           /* result under 5,952 bytes; with the history under 600,000 */
     LGT_SCORE_REFUSED_HEADER = 3,           /* no header line: five numbers in six columns each and a line feed */
     LGT_SCORE_REFUSED_LIMITS = 4,           /* nodes or genes not 1 to 127, or a cost above 99; with a tree also genes other than 1 */
     LGT_SCORE_REFUSED_LINES = 5,            /* the lines after the header: their number, form or order; with a tree also any gene line */
@@ -67,7 +68,20 @@ size_t lgt_score(const uint8_t *sheet, size_t sheet_len,
                  uint32_t *scratch, size_t scratch_len);
 
 /*
- * The same of a sheet without gene lines, whose header has 1 for the genes, and a gene tree, any tree_len bytes at tree: a leaf
+ * The same with one cheapest history behind the report: for each gene, rising, a line of 31 bytes for each of its steps, with the
+ * gene, the number of the step from 1, the node where the gene stands when the step begins, the event (0 to 3 as in the report,
+ * 4 loss going down, 5 loss by transfer, 6 free pass) and the step's cost. The costs of the lines add up to the whole-network cost
+ * of the report's second line; docs/RULES.md says which of the cheapest histories it is. Returns
+ *   1 to 13  a refusal: no byte of result and no word of scratch has changed;
+ *   else     how many bytes of report and lines it wrote to result; scratch ends as with lgt_score.
+ * All else is as for lgt_score.
+ */
+size_t lgt_score_history(const uint8_t *sheet, size_t sheet_len,
+                         uint8_t *result, size_t result_len,
+                         uint32_t *scratch, size_t scratch_len);
+
+/*
+ * As lgt_score, of a sheet without gene lines, whose header has 1 for the genes, and a gene tree, any tree_len bytes at tree: a leaf
  * is a species number from 1 to 999999 without leading zeros, two trees in brackets with a comma between them are a tree, and a
  * semicolon is the last byte (a line feed behind it is refused by 14). Genes are numbered as met from the left, each pair before
  * its members, and the report has their number for m. Returns

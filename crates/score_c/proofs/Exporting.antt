@@ -5,13 +5,13 @@ use Rattle.std.proofs.Common.{Result, ℕ, ◌≡◌, ◌≤◌, ◌<◌, List, 
 use Rattle.finite.specs.Refusals.{least_report, Refusal}
 use Rattle.family.specs.Families.{Contents}
 use Rattle.refusals.specs.declared.Refusal.{Refusal as Reason}
-use Rattle.answer.specs.Outcome.{number_of, Promise}
+use Rattle.answer.specs.Outcome.{number_of, PromiseWriting}
 use Rattle.answer.proofs.Answers.{below_refused, above_report}
 use Rattle.score_c.specs.Exported.{Exported}
 
 -- a call with a promise P of its answer, which is of crate answer or has that of it
-pub exported : (P : Result ℕ Reason → Type 0) {n : ℕ} {rs : List Refusal} {X : Contents} {d e u t : List ℕ} {r : Result ℕ Reason} {k : ℕ}
-    → P r → Promise n rs X d e u t r → k ≡ number_of r → Exported P k
+pub exported : (P : Result ℕ Reason → Type 0) {n : ℕ} {rs : List Refusal} {X : Contents} {piece d e u t : List ℕ} {r : Result ℕ Reason} {k : ℕ}
+    → P r → PromiseWriting n rs X piece d e u t r → k ≡ number_of r → Exported P k
 exported P {r = r} h p e = record {
   answer = r;
   promise = h;

@@ -2,6 +2,7 @@
 #![tactic(auto)]
 
 ghost use Rattle.score.specs.Outcome as Plain;
+ghost use Rattle.score_history.specs.Outcome as History;
 ghost use Rattle.score_newick.specs.Outcome as Newick;
 ghost use Rattle.score_c.specs.Exported.{Exported};
 
@@ -13,7 +14,15 @@ pub extern "C" fn lgt_score(sheet: &[u8], res: &mut [u8], scratch: &mut [u32]) -
     answer::number(score::score(sheet, res, scratch))
 }
 
-// The same of a sheet without gene lines and a gene tree as Newick text.
+// The same with the lines of the history behind the report.
+#[unsafe(no_mangle)]
+pub extern "C" fn lgt_score_history(sheet: &[u8], res: &mut [u8], scratch: &mut [u32]) -> usize
+    ensures { Exported (History.Promise sheet.now res.old res.new scratch.old scratch.new) result }
+{
+    answer::number(score_history::score_history(sheet, res, scratch))
+}
+
+// A refusal's number, or the bytes of the report, of a sheet without gene lines and a gene tree as Newick text.
 #[unsafe(no_mangle)]
 pub extern "C" fn lgt_score_newick(
     sheet: &[u8],

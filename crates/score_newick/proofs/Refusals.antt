@@ -78,7 +78,7 @@ module _ (s text : List ℕ) (bytes words : ℕ) where
 
   pub all_tells : AllTell (refusals s text bytes words)
   unfolding refusals
-  all_tells = all_tell (buffer_refusals bytes words) _ (buffers_tell bytes words)
+  all_tells = all_tell (buffer_refusals least_words least_bytes bytes words) _ (buffers_tell _ _ bytes words)
       (λ _. all_tell (sheet_refusals s) _ (sheet_tells s) (λ _. curators_tell text (contents_of s text) no_others))
 
   -- a refusal's number is at most 15
@@ -99,16 +99,16 @@ module _ (s text : List ℕ) (bytes words : ℕ) where
   -- the ways out before the curators
   pub refusal_1 : words < least_words → refusal s text bytes words ≡ 1
   unfolding refusal refusals
-  refusal_1 l = short_scratch bytes words _ l
+  refusal_1 l = short_scratch _ _ bytes words _ l
 
   pub refusal_2 : least_words ≤ words → bytes < least_bytes → refusal s text bytes words ≡ 2
   unfolding refusal refusals
-  refusal_2 a l = short_result bytes words _ a l
+  refusal_2 a l = short_result _ _ bytes words _ a l
 
   module _ (space : least_words ≤ words) (room : least_bytes ≤ bytes) where
     past : refusal s text bytes words ≡ verdict (sheet_refusals s ++ curator_refusals text (contents_of s text))
     unfolding refusal refusals
-    past = ample bytes words _ space room
+    past = ample _ _ bytes words _ space room
 
     pub refusal_3 : refusal3 s ≡ true → refusal s text bytes words ≡ 3
     unfolding sheet_refusals
@@ -130,12 +130,12 @@ module _ (s text : List ℕ) (bytes words : ℕ) where
 
 -- where no refusal applies
 module _ (s text : List ℕ) (bytes words : ℕ) (e : refusal s text bytes words ≡ 0) where
-  after_buffers : (verdict (buffer_refusals bytes words) ≡ 0) × (verdict (sheet_refusals s ++ curator_refusals text (contents_of s text)) ≡ 0)
+  after_buffers : (verdict (buffer_refusals least_words least_bytes bytes words) ≡ 0) × (verdict (sheet_refusals s ++ curator_refusals text (contents_of s text)) ≡ 0)
   unfolding refusal refusals
-  after_buffers = both_none (buffer_refusals bytes words) _ (buffers_tell bytes words) e
+  after_buffers = both_none (buffer_refusals least_words least_bytes bytes words) _ (buffers_tell _ _ bytes words) e
 
   pub buffers_pass : (least_words ≤ words) × (least_bytes ≤ bytes)
-  buffers_pass = buffers_fit bytes words after_buffers.0
+  buffers_pass = buffers_fit _ _ bytes words after_buffers.0
 
   pub sheet_passes : (refusal3 s ≡ false) × (refusal4 s ≡ false) × (refusal5 s ≡ false)
   unfolding sheet_refusals

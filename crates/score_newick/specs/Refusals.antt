@@ -9,6 +9,7 @@ use Rattle.gene_tree.specs.Refusals.{gene_refusals}
 use Rattle.newick.specs.Answers.{tree_refusals}
 use Rattle.newick.specs.Reading.{lines_read}
 use Rattle.family.specs.Families.{Contents}
+use Rattle.family.specs.Buffers.{least_words, least_bytes}
 use Rattle.score.specs.Refusals.{buffer_refusals}
 use Rattle.written_out.specs.WrittenOut.{contents_with}
 use Rattle.score_newick.specs.Sheets.{refusal4, refusal5, Refusal4, Refusal5}
@@ -29,9 +30,9 @@ curator_refusals text X = network_refusals X.nodes ++ (component_refusals X.node
 abbrev pub contents_of : (sheet text : List ℕ) → Contents
 contents_of sheet text = contents_with sheet (lines_read text)
 
--- of a sheet, a text, a result of so many bytes and a scratch of so many words
+-- of a sheet, a text, a result of so many bytes and a scratch of so many words; the least buffers are those of the plain call
 unfoldable pub refusals : (sheet text : List ℕ) (bytes words : ℕ) → List Refusal
-refusals sheet text bytes words = buffer_refusals bytes words ++ (sheet_refusals sheet ++ curator_refusals text (contents_of sheet text))
+refusals sheet text bytes words = buffer_refusals least_words least_bytes bytes words ++ (sheet_refusals sheet ++ curator_refusals text (contents_of sheet text))
 
 -- "the first that applies is given", 0 where none applies
 unfoldable pub refusal : (sheet text : List ℕ) (bytes words : ℕ) → ℕ

@@ -27,10 +27,11 @@ use Rattle.histories.specs.Families.{family_of}
 use Rattle.report.specs.Reports.{report_of}
 use Rattle.report.specs.declared.Totals.{Totals}
 use Rattle.family.specs.Families.{Contents, network_in, gene_tree_in, family_in, reported}
+use Rattle.family.specs.Buffers.{least_bytes}
 use Rattle.family.specs.Reports.{totals_in, report_in}
 use Rattle.topology.specs.Components.{component_count}
 use Rattle.score.specs.Contents.{node_lines, gene_lines, contents_of}
-use Rattle.score.specs.Refusals.{buffer_refusals, text_refusals, curator_refusals, refusals, refusal}
+use Rattle.score.specs.Refusals.{first_refusals, curator_refusals, refusals_of, refusal}
 
 -- f at 1..n as a list
 unfoldable pub listed : ℕ → (ℕ → ℕ) → List ℕ
@@ -70,10 +71,10 @@ contents_frozen s = rw (
 
 -- the refusal of a sheet with these contents
 unfoldable pub refusal_with : List ℕ → (bytes words : ℕ) → Contents → ℕ
-refusal_with s bytes words X = verdict (buffer_refusals bytes words ++ (text_refusals s ++ curator_refusals X))
+refusal_with s bytes words X = verdict (first_refusals least_bytes s bytes words ++ curator_refusals X)
 
 pub refusal_is : (s : List ℕ) (bytes words : ℕ) → refusal_with s bytes words (contents_of s) ≡ refusal s bytes words
-unfolding refusal_with refusal refusals
+unfolding refusal_with refusals_of
 refusal_is s bytes words = refl
 
 -- the gene tree, and the family of the whole network

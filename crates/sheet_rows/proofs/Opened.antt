@@ -25,7 +25,7 @@ use Rattle.displayed.specs.Model.{place, event, transfers, losses, duplication_c
 use Rattle.optimum.specs.Optimum.{trial, best_setting, assembled, trials_of, settings, trials}
 use Rattle.report.specs.Reports.{totals_lines, lines_where, report_of}
 use Rattle.family.specs.Families.{network_in}
-use Rattle.score.specs.Refusals.{buffer_refusals, text_refusals, curator_refusals}
+use Rattle.score.specs.Refusals.{buffer_refusals, text_refusals, first_refusals, curator_refusals}
 
 unfoldable pub open_Finite : Unit {0}
 unfolding same under sum count every any first children first_least filled verdict
@@ -48,5 +48,5 @@ unfolding left_of right_of leaf_of T.place_in T.place T.sends T.sits T.duplicate
 open_Mapping = tt
 
 unfoldable pub open_Score : Unit {0}
-unfolding totals_lines lines_where report_of network_in buffer_refusals text_refusals curator_refusals
+unfolding totals_lines lines_where report_of network_in buffer_refusals text_refusals first_refusals curator_refusals
 open_Score = tt

@@ -27,7 +27,7 @@ use Rattle.sheet_rows.proofs.Frozen.{frozen_contents, contents_frozen, refusal_w
 pub record Agrees (k : ℕ) (X : Contents) (r : Row) (a : Result ℕ Refusal) : Type 0 where
   pub refusal : k ≡ refused a
   pub report : k ≡ 0 → Ok (length (report_in X)) ≡ a
-  pub result : (d : List ℕ) → result_by k X d ≡ written d r.report
+  pub result : (d : List ℕ) → result_by k (report_in X) d ≡ written d r.report
   pub scratch : (u : List ℕ) → scratch_by k X u ≡ r.words ++ drop (length r.words) u
 
 module _ (k : ℕ) (X : Contents) (r : Row) where
@@ -107,7 +107,6 @@ answered k X d e u t a (Ok n) o z report = o.report z ∙ report z
 answered k X d e u t a (Err x) o z report = is_refusal a x (o.refusal ∙ z)
 
 known : (r : Row) → passes r ≡ true → Known r
-unfolding refusal
 known r p = record {
   outcome = λ d e u t a long ample promise.
       let A = subst (λ (k : ℕ). Agrees k (contents_of r.sheet) r r.answer) (sym (ap₂ (refusal r.sheet) long ample)) (row_agrees r p) in

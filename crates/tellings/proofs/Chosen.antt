@@ -78,7 +78,7 @@ module _ (F : Family) where
 
     -- the parts of a cheapest history are cheapest
     module _ (g v : ℕ) (s : Step) (m : Among s (options F g v)) where
-      pub tight_parts : {a b p q : ℕ} → gene g ≡ pair a b → onward s ≡ splits p q → (h : History F a p) (i : History F b q) → least F g v ≡ some (step_cost F s + (cost F h + cost F i))
+      pub tight_parts : {a b p q : ℕ} → gene g ≡ pair a b → onward s ≡ splits p q → (h : History F a p) (i : History F b q) → least F g v ≡ some (step_cost F.costs s + (cost F h + cost F i))
           → (least F a p ≡ some (cost F h)) × (least F b q ≡ some (cost F i))
       tight_parts {a} {b} {p} {q} k o h i e =
           let x = finite h in
@@ -86,19 +86,19 @@ module _ (F : Family) where
           let h₂ = at_cost a p x.0 x.1 in
           let i₂ = at_cost b q y.0 y.1 in
           let j = made_parts g v s m k o h₂.0 i₂.0 in
-          let l = not_less (step_cost F s + (cost F h + cost F i)) e j.0 in
+          let l = not_less (step_cost F.costs s + (cost F h + cost F i)) e j.0 in
           (x.1 ∙ ap some (omega arith), y.1 ∙ ap some (omega arith))
 
-      pub tight_move : {w : ℕ} → onward s ≡ goes w → (h : History F g w) → least F g v ≡ some (step_cost F s + cost F h) → least F g w ≡ some (cost F h)
+      pub tight_move : {w : ℕ} → onward s ≡ goes w → (h : History F g w) → least F g v ≡ some (step_cost F.costs s + cost F h) → least F g w ≡ some (cost F h)
       tight_move {w} o h e =
           let x = finite h in
           let h₂ = at_cost g w x.0 x.1 in
           let j = made_move g v s m o h₂.0 in
-          let l = not_less (step_cost F s + cost F h) e j.0 in
+          let l = not_less (step_cost F.costs s + cost F h) e j.0 in
           x.1 ∙ ap some (omega arith)
 
       -- the step of a cheapest history attains the least cost
-      pub attains : {c : ℕ} {f : ℕ → List Line} → Rest F g (onward s) c f → least F g v ≡ some (step_cost F s + c) → total F (least F) g s ≡ least F g v
+      pub attains : {c : ℕ} {f : ℕ → List Line} → Rest F g (onward s) c f → least F g v ≡ some (step_cost F.costs s + c) → total F (least F) g s ≡ least F g v
       unfolding total beyond added ◌⊕◌
       attains (finished o z _) e = rw (o, e, z)
       attains (parted k o h i z _) e = let t = tight_parts k o h i (rw z at e) in rw (o, k, t.0, t.1, e, z)
@@ -131,19 +131,19 @@ module _ (F : Family) where
     Exists k g v c = (j : History F g v) × (cost F j ≡ c) × ((x : ℕ) → steps F j x ≡ chosen F k g v x)
 
     module _ (k : ℕ) (all : (g v c : ℕ) → depth g v < k → least F g v ≡ some c → Exists k g v c) (g v c : ℕ) (l : depth g v < suc k) (s : Step) (m : Among s (options F g v)) (is : choice F (least F) g v ≡ some s) where
-      by_choice : (K : Gene) → gene g ≡ K → (o : Onward) → onward s ≡ o → added (step_cost F s) (beyond (least F) g K o) ≡ some c → Exists (suc k) g v c
+      by_choice : (K : Gene) → gene g ≡ K → (o : Onward) → onward s ≡ o → added (step_cost F.costs s) (beyond (least F) g K o) ≡ some c → Exists (suc k) g v c
       unfolding beyond chosen follow after added ◌⊕◌
       by_choice K q ends o t = let j = made_end g v s m o in (j.0, cc, λ x. j.2 x ∙ rw (is, o))
       by_choice (tip u) q (splits y z) o t = let z : ◌≡◌ {A = ℕ} 0 1 = cc in absurd (omega arith)
       by_choice (pair a b) q (splits y z) o t =
-          let r = of_parts (step_cost F s) (least F a y) (least F b z) c t in
+          let r = of_parts (step_cost F.costs s) (least F a y) (least F b z) c t in
           let d = lower_parts g v s m q o in
           let h = all a y r.0 (omega arith) r.2 in
           let i = all b z r.1 (omega arith) r.3 in
           let j = made_parts g v s m q o h.0 i.0 in
           (j.0, omega arith, λ x. j.2 x ∙ rw (is, o, q, h.2 x, i.2 x))
       by_choice K q (goes w) o t =
-          let r = of_move (step_cost F s) (least F g w) c t in
+          let r = of_move (step_cost F.costs s) (least F g w) c t in
           let d = lower_move g v s m o in
           let h = all g w r.0 (omega arith) r.1 in
           let j = made_move g v s m o h.0 in
@@ -181,7 +181,7 @@ module _ (F : Family) where
 
     module _ (k : ℕ) (all : (g v : ℕ) → depth g v < k → (j : History F g v) → least F g v ≡ some (cost F j) → NotAfter (chosen F k g v) (steps F j)) (g v : ℕ) (l : depth g v < suc k) (j : History F g v) (s : Step) (m : Among s (options F g v)) where
       -- the chosen step is the history's own
-      same_step : {c : ℕ} {f : ℕ → List Line} → choice F (least F) g v ≡ some s → Rest F g (onward s) c f → least F g v ≡ some (step_cost F s + c) → ((x : ℕ) → steps F j x ≡ own g v s x ++ f x)
+      same_step : {c : ℕ} {f : ℕ → List Line} → choice F (least F) g v ≡ some s → Rest F g (onward s) c f → least F g v ≡ some (step_cost F.costs s + c) → ((x : ℕ) → steps F j x ≡ own g v s x ++ f x)
           → NotAfter (chosen F (suc k) g v) (steps F j)
       unfolding chosen follow after
       same_step is (finished o _ e) q tells = alike (λ x. rw (is, o, tells x, e x))

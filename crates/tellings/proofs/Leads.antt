@@ -8,7 +8,8 @@ use Rattle.histories.specs.inner.Grades.{Leads}
 use Rattle.tellings.specs.Steps.{Step, rests}
 use Rattle.tellings.specs.Chosen.{moves, partings, restings, endings, options, Onward, ends, splits, goes, onward}
 use Rattle.tellings.specs.inner.Lineages.{Levels}
-use Rattle.tellings.proofs.Options.{Among, Each, each_of, each_both}
+use Rattle.tellings.specs.inner.Walks.{Each}
+use Rattle.tellings.proofs.Options.{Among, each_of, each_both}
 
 module _ (F : Family) where
   open F use {out, gene}

@@ -4,7 +4,7 @@ pub mod Leads
 pub mod Chosen
 pub mod First
 pub mod Told
-pub mod Keys
+pub mod StepNumbers
 pub mod Walks
 pub mod Rising
 pub mod Turns

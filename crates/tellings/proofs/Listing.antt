@@ -31,7 +31,7 @@ module _ (F : Family) where
   numbered_costs g k [] = refl
   numbered_costs g k (line v s ∷ l) = rw (numbered_costs g (suc k) l)
 
-  numbered_length : (g k : ℕ) (l : List Line) → length (numbered F g k l) ≡ length l
+  pub numbered_length : (g k : ℕ) (l : List Line) → length (numbered F g k l) ≡ length l
   unfolding numbered
   numbered_length g k [] = refl
   numbered_length g k (line v s ∷ l) = ap suc (numbered_length g (suc k) l)
@@ -41,7 +41,7 @@ module _ (F : Family) where
   listing_costs f zero = refl
   listing_costs f (suc m) = costs_append (listing F f m) (numbered F (suc m) 0 (f (suc m))) ∙ rw (listing_costs f m, numbered_costs (suc m) 0 (f (suc m)))
 
-  listing_length : (f : ℕ → List Line) (m : ℕ) → length (listing F f m) ≡ sum m (λ x. length (f x))
+  pub listing_length : (f : ℕ → List Line) (m : ℕ) → length (listing F f m) ≡ sum m (λ x. length (f x))
   unfolding listing sum
   listing_length f zero = refl
   listing_length f (suc m) = length-append (listing F f m) (numbered F (suc m) 0 (f (suc m))) ∙ rw (listing_length f m, numbered_length (suc m) 0 (f (suc m)))

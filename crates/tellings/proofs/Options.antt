@@ -7,17 +7,14 @@ use Rattle.finite.proofs.Tests.{is_same, same_is}
 use Rattle.histories.specs.Histories.{Out, leaf, one, two, mixed, Gene, tip, pair, Family, History, rest, duplicate, speciate, speciate_lose, transfer_stay, transfer_part, transfer_lose, pass, cost}
 use Rattle.tellings.specs.Steps.{Step, rests, speciates, duplicates, transfers, loses_going_down, loses_by_transfer, passes_free, step_cost, Line, own, steps}
 use Rattle.tellings.specs.Chosen.{moves, partings, restings, endings, options, Onward, ends, splits, goes, onward}
+use Rattle.tellings.specs.inner.Walks.{Each}
 
 -- a step is one of a list
 pub data Among (s : Step) : List Step → Type 0 where
   now : {l : List Step} → Among s (s ∷ l)
   then : {t : Step} {l : List Step} → Among s l → Among s (t ∷ l)
 
--- each step of a list has the property
-unfoldable pub Each : (Step → Type 0) → List Step → Type 0
-Each P [] = Unit {0}
-Each P (s ∷ l) = P s × Each P l
-
+-- what holds of each step of a list holds of one of them
 pub each_of : (P : Step → Type 0) {s : Step} {l : List Step} → Each P l → Among s l → P s
 unfolding Each
 each_of P e now = e.0
@@ -28,6 +25,16 @@ unfolding Each
 each_both P [] k e f = f
 each_both P (s ∷ l) k e f = (e.0, each_both P l k e.1 f)
 
+pub each_left : (P : Step → Type 0) (l k : List Step) → Each P (l ++ k) → Each P l
+unfolding Each
+each_left P [] k e = tt
+each_left P (s ∷ l) k e = (e.0, each_left P l k e.1)
+
+pub each_right : (P : Step → Type 0) (l k : List Step) → Each P (l ++ k) → Each P k
+unfolding Each
+each_right P [] k e = e
+each_right P (s ∷ l) k e = each_right P l k e.1
+
 in_right : {s : Step} (l k : List Step) → Among s k → Among s (l ++ k)
 in_right [] k m = m
 in_right (t ∷ l) k m = then (in_right l k m)
@@ -37,7 +44,7 @@ module _ (F : Family) where
 
   -- a history of gene g from node v that begins with the step s and goes on at the cost c with the steps f
   abbrev pub Made : (g v : ℕ) → Step → ℕ → (ℕ → List Line) → Type 0
-  Made g v s c f = (j : History F g v) × (cost F j ≡ step_cost F s + c) × ((x : ℕ) → steps F j x ≡ own g v s x ++ f x)
+  Made g v s c f = (j : History F g v) × (cost F j ≡ step_cost F.costs s + c) × ((x : ℕ) → steps F j x ≡ own g v s x ++ f x)
 
   -- what follows a step, as histories
   pub data Rest (g : ℕ) (o : Onward) (c : ℕ) (f : ℕ → List Line) : Type 0 where
@@ -51,15 +58,15 @@ module _ (F : Family) where
     pub cost_on : ℕ
     pub steps_on : ℕ → List Line
     pub rest_on : Rest g (onward step) cost_on steps_on
-    pub costs : cost F j ≡ step_cost F step + cost_on
+    pub costs : cost F j ≡ step_cost F.costs step + cost_on
     pub tells : (x : ℕ) → steps F j x ≡ own g v step x ++ steps_on x
 
   parts : {g v a b p q : ℕ} (s : Step) → gene g ≡ pair a b → Among s (options F g v) → onward s ≡ splits p q → (h : History F a p) (i : History F b q) → (j : History F g v)
-      → cost F j ≡ step_cost F s + (cost F h + cost F i) → ((x : ℕ) → steps F j x ≡ own g v s x ++ (steps F h x ++ steps F i x)) → Begun g v j
+      → cost F j ≡ step_cost F.costs s + (cost F h + cost F i) → ((x : ℕ) → steps F j x ≡ own g v s x ++ (steps F h x ++ steps F i x)) → Begun g v j
   parts s k m o h i j c f = record { step = s; among = m; cost_on = cost F h + cost F i; steps_on = λ x. steps F h x ++ steps F i x; rest_on = parted k o h i refl (λ x. refl); costs = c; tells = f }
 
   onto : {g v w : ℕ} (s : Step) → Among s (options F g v) → onward s ≡ goes w → (h : History F g w) → (j : History F g v)
-      → cost F j ≡ step_cost F s + cost F h → ((x : ℕ) → steps F j x ≡ own g v s x ++ steps F h x) → Begun g v j
+      → cost F j ≡ step_cost F.costs s + cost F h → ((x : ℕ) → steps F j x ≡ own g v s x ++ steps F h x) → Begun g v j
   onto s m o h j c f = record { step = s; among = m; cost_on = cost F h; steps_on = steps F h; rest_on = gone o h refl (λ x. refl); costs = c; tells = f }
 
   by_move : {s : Step} (g v : ℕ) → Among s (moves (out v)) → Among s (options F g v)

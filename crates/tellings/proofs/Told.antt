@@ -23,12 +23,12 @@ use Rattle.tellings.proofs.Chosen.{depth, lower_move, lower_parts, none_below}
 -- what the steps of a gene cost together
 unfoldable pub steps_cost : Family → List Line → ℕ
 steps_cost F [] = 0
-steps_cost F (line v s ∷ l) = step_cost F s + steps_cost F l
+steps_cost F (line v s ∷ l) = step_cost F.costs s + steps_cost F l
 
 cost_append : (F : Family) (l k : List Line) → steps_cost F (l ++ k) ≡ steps_cost F l + steps_cost F k
 unfolding steps_cost
 cost_append F [] k = omega arith
-cost_append F (line v s ∷ l) k = rw (cost_append F l k) (sym (add_assoc (step_cost F s) (steps_cost F l) (steps_cost F k)))
+cost_append F (line v s ∷ l) k = rw (cost_append F l k) (sym (add_assoc (step_cost F.costs s) (steps_cost F l) (steps_cost F k)))
 
 module _ (g v : ℕ) (s : Step) where
   pub own_here : own g v s g ≡ line v s ∷ []
@@ -40,9 +40,9 @@ module _ (g v : ℕ) (s : Step) where
   own_not x d = rw (not_same d)
 
 -- one step costs its step_cost, whichever gene takes it
-cost_own : (F : Family) (m g v : ℕ) (s : Step) → 1 ≤ g → g ≤ m → sum m (λ x. steps_cost F (own g v s x)) ≡ step_cost F s
+cost_own : (F : Family) (m g v : ℕ) (s : Step) → 1 ≤ g → g ≤ m → sum m (λ x. steps_cost F (own g v s x)) ≡ step_cost F.costs s
 unfolding steps_cost
-cost_own F m g v s l u = sum_point m (λ x. 0) (λ x. steps_cost F (own g v s x)) g (step_cost F s) l u (λ x d. ap (steps_cost F) (own_not g v s x d)) (ap (steps_cost F) (own_here g v s) ∙ omega arith) ∙ omega (arith, sum_zero m (λ x. 0) (λ v _ _. refl))
+cost_own F m g v s l u = sum_point m (λ x. 0) (λ x. steps_cost F (own g v s x)) g (step_cost F.costs s) l u (λ x d. ap (steps_cost F) (own_not g v s x d)) (ap (steps_cost F) (own_here g v s) ∙ omega arith) ∙ omega (arith, sum_zero m (λ x. 0) (λ v _ _. refl))
 
 module _ (F : Family) (ok : Graded F) where
   open F use {gene, genes}

@@ -2,7 +2,6 @@
 -- Assumes nothing.
 use Rattle.std.proofs.Common.{◌≡◌, refl, sym, ap, ◌∙◌, ◌≢◌, ◌⊎◌, inl, inr, true, false, List, [], ◌∷◌, ◌++◌, append-nil, ℕ, zero, suc, ◌≤◌, ◌<◌, arith}
 use mathlib.Core.Option.{Option, none, some}
-use Rattle.finite.specs.Tables.{at}
 use Rattle.finite.proofs.Cases.{by_eq, by_bool, clash}
 use Rattle.topology.proofs.Climbing.{over_low, over_child}
 use Rattle.histories.specs.Histories.{Family, Out, leaf, one, two, mixed, Gene, tip, pair, ◌⊕◌, then as added, least}
@@ -10,8 +9,8 @@ use Rattle.histories.specs.inner.Grades.{Graded}
 use Rattle.tellings.specs.inner.Lineages.{Lineage}
 use Rattle.tellings.specs.Steps.{Step, duplicates, step_cost, Line, line, own}
 use Rattle.tellings.specs.Chosen.{moves, partings, endings, options, Onward, ends, splits, goes, onward, beyond, total, same_cost, choice, after, follow, chosen}
-use Rattle.tellings.specs.inner.Walks.{unless_gone, line_then, last_of, walk_in, leave_in, walk, leave}
-use Rattle.tellings.proofs.Options.{Among, Each, each_of, each_both, begun}
+use Rattle.tellings.specs.inner.Walks.{Each, unless_gone, line_then, last_of, walk_in, leave_in, walk, leave}
+use Rattle.tellings.proofs.Options.{Among, each_of, each_both, begun}
 use Rattle.tellings.proofs.Picks.{sound as pick-sound}
 use Rattle.tellings.proofs.Chosen.{costs_same, at_cost, exists, chooses, depth, lower_move, lower_parts, none_below, of_move, of_parts}
 use Rattle.tellings.proofs.Told.{own_here, own_not, above, not_both, outside}
@@ -84,35 +83,43 @@ module _ (F : Family) (ok : Graded F) where
   unfolding leave_in
   leave_suc k g v = refl
 
-  pub walk_eq : (g v : ℕ) → walk F g v ≡ line_then (walk F g) v (choice F (least F) g v)
+  walk_eq : (g v : ℕ) → walk F g v ≡ line_then (walk F g) v (choice F (least F) g v)
   unfolding walk
   walk_eq = climb_eq (walk_in F) line_then walk_suc same_line
 
-  pub leave_eq : (g v : ℕ) → leave F g v ≡ last_of (leave F g) (choice F (least F) g v)
+  leave_eq : (g v : ℕ) → leave F g v ≡ last_of (leave F g) (choice F (least F) g v)
   unfolding leave
   leave_eq = climb_eq (leave_in F) (λ f v. last_of f) leave_suc same_last
 
   -- by the step taken
   module _ (g v : ℕ) (s : Step) (is : choice F (least F) g v ≡ some s) where
+    pub walk_step : walk F g v ≡ line v s ∷ unless_gone (λ o. []) (walk F g) (onward s)
+    unfolding line_then
+    walk_step = walk_eq g v ∙ rw is
+
+    pub leave_step : leave F g v ≡ unless_gone (λ o. o) (leave F g) (onward s)
+    unfolding last_of
+    leave_step = leave_eq g v ∙ rw is
+
     pub walk_ends : onward s ≡ ends → walk F g v ≡ line v s ∷ []
-    unfolding line_then unless_gone
-    walk_ends o = walk_eq g v ∙ rw (is, o)
+    unfolding unless_gone
+    walk_ends o = walk_step ∙ rw o
 
     pub walk_splits : {p q : ℕ} → onward s ≡ splits p q → walk F g v ≡ line v s ∷ []
-    unfolding line_then unless_gone
-    walk_splits o = walk_eq g v ∙ rw (is, o)
+    unfolding unless_gone
+    walk_splits o = walk_step ∙ rw o
 
     pub walk_goes : {w : ℕ} → onward s ≡ goes w → walk F g v ≡ line v s ∷ walk F g w
-    unfolding line_then unless_gone
-    walk_goes o = walk_eq g v ∙ rw (is, o)
+    unfolding unless_gone
+    walk_goes o = walk_step ∙ rw o
 
     pub leave_splits : {p q : ℕ} → onward s ≡ splits p q → leave F g v ≡ splits p q
-    unfolding last_of unless_gone
-    leave_splits o = leave_eq g v ∙ rw (is, o)
+    unfolding unless_gone
+    leave_splits o = leave_step ∙ rw o
 
     pub leave_goes : {w : ℕ} → onward s ≡ goes w → leave F g v ≡ leave F g w
-    unfolding last_of unless_gone
-    leave_goes o = leave_eq g v ∙ rw (is, o)
+    unfolding unless_gone
+    leave_goes o = leave_step ∙ rw o
 
   -- only leaf genes rest
   pub pair_goes_on : (g v a b : ℕ) (s : Step) → gene g ≡ pair a b → Among s (options F g v) → onward s ≡ ends → ⊥
@@ -200,12 +207,12 @@ module _ (F : Family) (ok : Graded F) where
                 pick c d ec ed (inl t) = clash (rw ec at t) y
                 pick c d ec ed (inr t) = rw ed at t
 
-        by_gene : (K : Gene) → gene g ≡ K → (o : Onward) → onward s ≡ o → added (step_cost F s) (beyond (least F) g K o) ≡ some c → Tells g v x (chosen F (suc k) g v x)
+        by_gene : (K : Gene) → gene g ≡ K → (o : Onward) → onward s ≡ o → added (step_cost F.costs s) (beyond (least F) g K o) ≡ some c → Tells g v x (chosen F (suc k) g v x)
         unfolding beyond added ◌⊕◌
         by_gene K q ends o t = at_end o
         by_gene (tip u) q (splits y z) o t = let z : ◌≡◌ {A = ℕ} 0 1 = cc in absurd (omega arith)
-        by_gene (pair a b) q (splits y z) o t = let r = of_parts (step_cost F s) (least F a y) (least F b z) c t in at_parts q o r.0 r.1 r.2 r.3
-        by_gene K q (goes w) o t = let r = of_move (step_cost F s) (least F g w) c t in at_move o r.0 r.1
+        by_gene (pair a b) q (splits y z) o t = let r = of_parts (step_cost F.costs s) (least F a y) (least F b z) c t in at_parts q o r.0 r.1 r.2 r.3
+        by_gene K q (goes w) o t = let r = of_move (step_cost F.costs s) (least F g w) c t in at_move o r.0 r.1
 
       pub tells : (k g v c : ℕ) → Below k g v c
       unfolding total

@@ -60,7 +60,7 @@ beyond W g (pair a b) (splits p q) = W a p ⊕ W b q
 beyond W g k (goes w) = W g w
 
 unfoldable pub total : Family → (W : ℕ → ℕ → Cost) → ℕ → Step → Cost
-total F W g s = then (step_cost F s) (beyond W g (F.gene g) (onward s))
+total F W g s = then (step_cost F.costs s) (beyond W g (F.gene g) (onward s))
 
 -- whether two costs are the same
 unfoldable pub same_cost : Cost → Cost → Bool

@@ -4,6 +4,7 @@
 use Rattle.std.specs.Prelude.{◌≡◌, cond, List, [], ◌∷◌, ◌++◌, ℕ, zero, suc, ◌+◌, ◌≤◌, ◌<◌}
 use Rattle.std.proofs.Common.{inl, inr}
 use Rattle.finite.specs.Tests.{same}
+use Rattle.reconciliation.specs.Costs.{Costs}
 use Rattle.histories.specs.Histories.{Family, History, rest, duplicate, speciate, speciate_lose, transfer_stay, transfer_part, transfer_lose, pass, cost}
 
 -- one step of a gene: the event, and the nodes where its children start, or the node that the gene moves on to. The children's nodes stand in the order
@@ -28,14 +29,14 @@ code (loses_by_transfer w) = 5
 code (passes_free w) = 6
 
 -- "and cost" (01, "The network as a whole"; D, T and L are the costs of the header)
-unfoldable pub step_cost : Family → Step → ℕ
-step_cost F rests = 0
-step_cost F (speciates p q) = 0
-step_cost F (duplicates v) = F.costs.duplication
-step_cost F (transfers p q) = F.costs.transfer
-step_cost F (loses_going_down w) = F.costs.loss
-step_cost F (loses_by_transfer w) = F.costs.transfer + F.costs.loss
-step_cost F (passes_free w) = 0
+unfoldable pub step_cost : Costs → Step → ℕ
+step_cost C rests = 0
+step_cost C (speciates p q) = 0
+step_cost C (duplicates v) = C.duplication
+step_cost C (transfers p q) = C.transfer
+step_cost C (loses_going_down w) = C.loss
+step_cost C (loses_by_transfer w) = C.transfer + C.loss
+step_cost C (passes_free w) = 0
 
 -- "the lowest node for the lower-numbered child gene, .. a gene that moves on takes the lower node": the node for that child, or the one moved on to
 unfoldable pub first : Step → ℕ
@@ -82,7 +83,7 @@ steps F {g} {v} (pass {x = p} o h) x = own g v (passes_free p) x ++ steps F h x
 -- "a line per step with gene, step number from 1, node, event code .. and cost": the lines of gene g after its first k
 unfoldable pub numbered : Family → (g k : ℕ) → List Line → List (List ℕ)
 numbered F g k [] = []
-numbered F g k (line v s ∷ l) = (g ∷ suc k ∷ v ∷ code s ∷ step_cost F s ∷ []) ∷ numbered F g (suc k) l
+numbered F g k (line v s ∷ l) = (g ∷ suc k ∷ v ∷ code s ∷ step_cost F.costs s ∷ []) ∷ numbered F g (suc k) l
 
 -- "for each gene, rising": the lines of the genes 1..m
 unfoldable pub listing : Family → (ℕ → List Line) → ℕ → List (List ℕ)

@@ -11,7 +11,7 @@ use Rattle.finite.proofs.Tables.{replicate_at}
 use Rattle.finite.proofs.Cases.{by_bool, by_eq}
 use Rattle.columns.specs.Fields.{columns, six, spells, field_at, FieldIs}
 use Rattle.columns.specs.Writing.{written, put}
-use Rattle.text_lines.specs.Lines.{field_count, line_length, fields_of, line_of, Small, Reading, malformed, end_at, and_then, rest_at, line_at, LineIs, told_at, SaysLine, LineRead}
+use Rattle.text_lines.specs.Lines.{field_count, line_length, fields_of, line_of, lines_text, Small, Reading, malformed, end_at, and_then, rest_at, line_at, LineIs, told_at, SaysLine, LineRead}
 use Rattle.columns.specs.declared.Cursor.{Cursor}
 use Rattle.std.specs.Prelude.{Option, Some, None}
 use Rattle.columns.proofs.Columns.{length_columns}
@@ -27,6 +27,17 @@ length_fields (suc k) ns = rw (length-append, length_columns, length_fields k ns
 pub length_line : (ns : List ℕ) → length (line_of ns) ≡ line_length
 unfolding line_of
 length_line ns = rw (length-append, length_fields field_count ns)
+
+-- and of some lines, one after the other
+pub length_lines_text : (l : List (List ℕ)) → length (lines_text l) ≡ line_length * length l
+unfolding lines_text
+length_lines_text [] = refl
+length_lines_text (ns ∷ l) = rw (length-append, length_line ns, length_lines_text l) (omega arith)
+
+pub lines_text_append : (l k : List (List ℕ)) → lines_text (l ++ k) ≡ lines_text l ++ lines_text k
+unfolding lines_text
+lines_text_append [] k = refl
+lines_text_append (ns ∷ l) k = rw (lines_text_append l k) (sym (append_assoc (line_of ns) (lines_text l) (lines_text k)))
 
 -- the first field and the others
 fields_head : (k : ℕ) (ns : List ℕ) → fields_of (suc k) ns ≡ columns (get_or ns 0 0) ++ fields_of k (drop 1 ns)
@@ -50,6 +61,9 @@ small_tail (n ∷ ns) s = record { small = λ i. s.small (suc i) }
 
 small_nil : Small []
 small_nil = record { small = λ i. lit< tt }
+
+pub small_of_five : (a b c d e : ℕ) → a < 1000000 → b < 1000000 → c < 1000000 → d < 1000000 → e < 1000000 → Small (a ∷ b ∷ c ∷ d ∷ e ∷ [])
+small_of_five a b c d e ha hb hc hd he = small_cons a _ ha (small_cons b _ hb (small_cons c _ hc (small_cons d _ hd (small_cons e _ he small_nil))))
 
 -- six bytes, then m bytes
 more : (s p r : List ℕ) (at m : ℕ) → six s at ≡ p → take m (drop (at + 6) s) ≡ r → take (6 + m) (drop at s) ≡ p ++ r

@@ -21,6 +21,11 @@ fields_of (suc k) ns = fields_of k ns ++ columns (get_or ns k 0)
 unfoldable pub line_of : List ℕ → List ℕ
 line_of ns = fields_of field_count ns ++ (10 ∷ [])
 
+-- the text of lines, one after the other
+unfoldable pub lines_text : List (List ℕ) → List ℕ
+lines_text [] = []
+lines_text (ns ∷ l) = line_of ns ++ lines_text l
+
 -- each number has a field
 pub record Small (ns : List ℕ) : Type 0 where
   pub small : (i : ℕ) → get_or ns i 0 < 1000000

@@ -22,7 +22,7 @@ use Rattle.cell_costs.specs.inner.Costs.{tip_cost, inner_cost}
 use Rattle.whole_network.specs.declared.Kind.TheVariants.{Tip, Pair}
 use Rattle.whole_network.specs.declared.Row.{Row}
 use Rattle.whole_network.specs.declared.source.Source.{Source}
-use Rattle.whole_network.specs.inner.Stages.{header, family, RowsIn, PartlyIn, KeptIn, Next}
+use Rattle.whole_network.specs.inner.Stages.{header, family, RowOf, RowsIn, PartlyIn, KeptIn, Next}
 use Rattle.whole_network.proofs.Ready.{ready, out_is}
 
 -- a leaf gene's step and an inner gene's are those of the clauses
@@ -33,6 +33,26 @@ tip_step d t l W g k v o = refl
 inner_step : (d t l : ℕ) (W : ℕ → ℕ → Cost) (g a b v : ℕ) (o : Out) → inner_cost d t l (W a) (W b) (W g) v o ≡ stepping d t l W g (pair a b) v o
 unfolding inner_cost stepping ending
 inner_step d t l W g a b v o = refl
+
+-- the gene of a row
+module _ {f : Source} {r : Row} (R : RowOf f r) where
+  -- a leaf gene of a species
+  module _ (k : ℕ) (is : r.kind ≡ Tip k) where
+    tip_kind : (left f.genes.now r.gene ≡ 0) × (k ≡ at f.lines.now.genes.species r.gene)
+    tip_kind = rw is at R.kind
+
+    pub tip_is : (family f).gene r.gene ≡ tip k
+    unfolding gene_tree
+    tip_is = gene_tip _ _ _ _ r.gene tip_kind.0 ∙ rw (gene_species_in (header f).genes f.lines.now.genes r.gene R.low R.high, tip_kind.1)
+
+  -- an inner gene whose children's rows begin at a and b
+  module _ (a b : ℕ) (is : r.kind ≡ Pair a b) where
+    pub pair_kind : (left f.genes.now r.gene ≢ 0) × (a ≡ (left f.genes.now r.gene - 1) * (header f).nodes) × (b ≡ (right f.genes.now r.gene - 1) * (header f).nodes)
+    pair_kind = rw is at R.kind
+
+    pub pair_is : (family f).gene r.gene ≡ pair (left f.genes.now r.gene) (right f.genes.now r.gene)
+    unfolding gene_tree
+    pair_is = gene_pair _ _ _ _ r.gene pair_kind.0
 
 -- the place of the order that is next in the row of a gene
 module _ {f : Source} {s : List ℕ} {r : Row} {i : ℕ} (T : Next f s r i) where
@@ -96,35 +116,27 @@ module _ {f : Source} {s : List ℕ} {r : Row} {i : ℕ} (T : Next f s r i) wher
 
   -- of a leaf gene
   module _ (k : ℕ) (is : r.kind ≡ Tip k) where
-    tip_kind : (left f.genes.now r.gene ≡ 0) × (k ≡ at f.lines.now.genes.species r.gene)
-    tip_kind = rw is at T.row.kind
-
-    gene_is : F.gene g ≡ tip k
-    unfolding gene_tree
-    gene_is = gene_tip _ _ _ _ g tip_kind.0 ∙ rw (gene_species_in (header f).genes f.lines.now.genes g T.row.low T.row.high, tip_kind.1)
-
     pub tip_least : tip_cost (header f).transfer (header f).loss k (cost_at (lent r.start)) (leaving_in f.lines.now.nodes f.arcs (order f.arcs i)) ≡ least (family f) r.gene (order f.arcs i)
-    tip_least = rw (take_rest s r.start, row_costs n s g r.start T.row.starts, ← outs) (tip_step (header f).duplication (header f).transfer (header f).loss (row n s) g k v (F.out v) ∙ rw gene_is at step_least)
+    tip_least = rw (take_rest s r.start, row_costs n s g r.start T.row.starts, ← outs) (tip_step (header f).duplication (header f).transfer (header f).loss (row n s) g k v (F.out v) ∙ rw (tip_is T.row k is) at step_least)
 
   -- of an inner gene whose children's rows begin at a and b
   module _ (a b : ℕ) (is : r.kind ≡ Pair a b) where
-    pair_kind : (left f.genes.now r.gene ≢ 0) × (a ≡ (left f.genes.now r.gene - 1) * (header f).nodes) × (b ≡ (right f.genes.now r.gene - 1) * (header f).nodes)
-    pair_kind = rw is at T.row.kind
+    abbrev kind : (left f.genes.now g ≢ 0) × (a ≡ (left f.genes.now g - 1) * n) × (b ≡ (right f.genes.now g - 1) * n)
+    kind = pair_kind T.row a b is
 
-    pair_is : F.gene g ≡ pair (left f.genes.now g) (right f.genes.now g)
-    unfolding gene_tree
-    pair_is = gene_pair _ _ _ _ g pair_kind.0
+    abbrev gene : F.gene g ≡ pair (left f.genes.now g) (right f.genes.now g)
+    gene = pair_is T.row a b is
 
     -- the rows of its children may be read there and at the node itself
     left_row : Cell (lent a) v × Leads (Cell (lent a)) (F.out v)
     unfolding family_of nodes_in gene_tree
-    left_row = rw (take_rest s a) (child_cells (ready f) T.room T.row.low T.row.high T.part T.low T.high refl (left f.genes.now g) a pair_kind.1
-        ((ready f).graded.left_more g _ _ pair_is) ((ready f).graded.left_in g _ _ pair_is))
+    left_row = rw (take_rest s a) (child_cells (ready f) T.room T.row.low T.row.high T.part T.low T.high refl (left f.genes.now g) a kind.1
+        ((ready f).graded.left_more g _ _ gene) ((ready f).graded.left_in g _ _ gene))
 
     right_row : Cell (lent b) v × Leads (Cell (lent b)) (F.out v)
     unfolding family_of nodes_in gene_tree
-    right_row = rw (take_rest s b) (child_cells (ready f) T.room T.row.low T.row.high T.part T.low T.high refl (right f.genes.now g) b pair_kind.2
-        ((ready f).graded.right_more g _ _ pair_is) ((ready f).graded.right_in g _ _ pair_is))
+    right_row = rw (take_rest s b) (child_cells (ready f) T.room T.row.low T.row.high T.part T.low T.high refl (right f.genes.now g) b kind.2
+        ((ready f).graded.right_more g _ _ gene) ((ready f).graded.right_in g _ _ gene))
 
     abbrev cells : ℕ → Type 0
     cells x = Cell (lent a) x × Cell (lent b) x
@@ -144,8 +156,8 @@ module _ {f : Source} {s : List ℕ} {r : Row} {i : ℕ} (T : Next f s r i) wher
 
     pub inner_least : inner_cost (header f).duplication (header f).transfer (header f).loss (cost_at (lent a)) (cost_at (lent b)) (cost_at (lent r.start)) (order f.arcs i) (leaving_in f.lines.now.nodes f.arcs (order f.arcs i))
         ≡ least (family f) r.gene (order f.arcs i)
-    inner_least = rw (take_rest s r.start, take_rest s a, take_rest s b, row_costs n s g r.start T.row.starts, row_costs n s (left f.genes.now g) a pair_kind.1, row_costs n s (right f.genes.now g) b pair_kind.2, ← outs)
-        (inner_step (header f).duplication (header f).transfer (header f).loss (row n s) g (left f.genes.now g) (right f.genes.now g) v (F.out v) ∙ rw pair_is at step_least)
+    inner_least = rw (take_rest s r.start, take_rest s a, take_rest s b, row_costs n s g r.start T.row.starts, row_costs n s (left f.genes.now g) a kind.1, row_costs n s (right f.genes.now g) b kind.2, ← outs)
+        (inner_step (header f).duplication (header f).transfer (header f).loss (row n s) g (left f.genes.now g) (right f.genes.now g) v (F.out v) ∙ rw gene at step_least)
 
 -- a row begins, and is done
 module _ (f : Source) {s : List ℕ} where

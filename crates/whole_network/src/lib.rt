@@ -1,15 +1,15 @@
 // The network as a whole: the least cost over all histories, for each gene and starting node.
 #![tactic(auto)]
 
-ghost use Rattle.std.specs.Prelude.{◌≡◌, ◌-◌, ◌*◌, ◌≤◌, length};
+ghost use Rattle.std.specs.Prelude.{◌≡◌, ◌-◌, ◌*◌, ◌≤◌};
 ghost use Rattle.histories.specs.Histories.{least};
 ghost use Rattle.histories.specs.inner.Promise.{WholeNetwork};
 ghost use Rattle.cell_costs.specs.inner.Costs.{cost_in};
 ghost use Rattle.arcs.specs.inner.Arcs.{order};
-ghost use Rattle.whole_network.specs.inner.Families.{family_in, AcceptedIn};
+ghost use Rattle.whole_network.specs.inner.Families.{AcceptedIn};
 ghost use Rattle.whole_network.specs.inner.Stages.{header, family, HasRoom, RowOf, RowsIn, PartlyIn, KeptIn, Next};
 
-mod source;
+pub mod source;
 
 use cell_costs::Children;
 use layout::genes::Genes;
@@ -19,7 +19,7 @@ use source::Source;
 
 // A leaf gene of a species, or an inner gene, by where its children's rows begin.
 #[derive(Clone, Copy)]
-enum Kind {
+pub enum Kind {
     Tip(usize),
     Pair(usize, usize),
 }
@@ -27,16 +27,30 @@ enum Kind {
 // A gene's row: where it begins, and what its words depend on. (Places in the scratch, and no slices of it: a row is written while its children's are read.
 // `split_at_mut` could lend both, for these come later, but what is said of the table is said of the scratch as a whole.)
 #[derive(Clone, Copy)]
-struct Row {
-    gene: usize,
-    start: usize,
-    kind: Kind,
+pub struct Row {
+    pub gene: usize,
+    pub start: usize,
+    pub kind: Kind,
+}
+
+// The source of the table of a sheet that no refusal applies to: its arcs are laid out. (Inlined, as `arcs::lay` and `sheet::read_lines`: the arcs stand where
+// they are laid.)
+#[inline(always)]
+pub fn source_of<'a>(lines: &'a Lines, genes: &'a Genes) -> Source<'a>
+    requires { AcceptedIn lines.now genes.now }
+    ensures { (result.lines.now ≡ lines.now) × (result.genes.now ≡ genes.now) }
+{
+    Source {
+        lines,
+        genes,
+        arcs: arcs::lay(SoundNetwork { lines }),
+    }
 }
 
 impl Source<'_> {
     // The row of gene g. What depends on the gene alone is read here, once for all nodes.
     #[tactic(auto, using(crate::proofs::Turns::row_low, crate::proofs::Turns::left_high, crate::proofs::Turns::right_low, crate::proofs::Turns::right_high))]
-    fn row(&self, g: usize) -> Row
+    pub fn row(&self, g: usize) -> Row
         requires { (1 ≤ g) × (g ≤ (header self.now).genes) }
         ensures { RowOf self.now result × (result.gene ≡ g) }
     {
@@ -111,18 +125,13 @@ impl Source<'_> {
             self.fill_row(g, scratch);
         }
     }
-}
 
-// Fills the table of least costs in the scratch, and returns the least cost over all histories of gene 1.
-pub fn fill(lines: &Lines, genes: &Genes, scratch: &mut [u32]) -> u32
-    requires { AcceptedIn lines.now genes.now × (lines.now.header.genes * lines.now.header.nodes ≤ length scratch.old) }
-    ensures { WholeNetwork (family_in lines.now genes.now) scratch.old scratch.new result }
-{
-    let source = Source {
-        lines,
-        genes,
-        arcs: arcs::lay(SoundNetwork { lines }),
-    };
-    source.fill_rows(scratch);
-    cell_costs::least_start(lines.header.nodes, scratch)
+    // Fills the table of least costs in the scratch, and returns the least cost over all histories of gene 1.
+    pub fn fill(&self, scratch: &mut [u32]) -> u32
+        requires { HasRoom self.now scratch.old }
+        ensures { WholeNetwork (family self.entry.now) scratch.old scratch.new result }
+    {
+        self.fill_rows(scratch);
+        cell_costs::least_start(self.lines.header.nodes, scratch)
+    }
 }

@@ -19,7 +19,7 @@ use Rattle.family.specs.Families.{Contents}
 use Rattle.family.specs.Buffers.{least_words, least_bytes}
 use Rattle.score.specs.Contents.{node_lines, gene_lines, contents_of}
 use Rattle.score.specs.Refusals.{curator_refusals, refusal}
-use Rattle.score.proofs.Refusals.{refusal_later}
+use Rattle.score.proofs.Refusals.{later, refusal_none}
 use Rattle.written_out.specs.WrittenOut.{header_fields, gene_fields, written_out, contents_with}
 use Rattle.written_out.specs.inner.Conditions.{WithoutGenes, Writable}
 use Rattle.written_out.proofs.Lines.{length_written_out, header_line, node_line_lem, gene_line_lem}
@@ -95,4 +95,4 @@ module _ {s : List ℕ} {K : GeneLines} (S : WithoutGenes s) (G : Writable K) wh
 
   -- the first refusal that applies to it is the first of 6 to 13 that applies to what s and K say
   pub refusal_is : (bytes words : ℕ) → least_words ≤ words → least_bytes ≤ bytes → refusal sheet bytes words ≡ verdict (curator_refusals (contents_with s K))
-  refusal_is bytes words lw lb = refusal_later sheet bytes words lw lb passes_3 passes_4 passes_5 ∙ ap (λ (X : Contents). verdict (curator_refusals X)) contents_is
+  refusal_is bytes words lw lb = later _ sheet bytes words (refusal_none _ sheet bytes words lw lb passes_3 passes_4 passes_5) ∙ ap (λ (X : Contents). verdict (curator_refusals X)) contents_is

@@ -1,35 +1,7 @@
--- The search, the whole network and the report ask what the verdicts and the tables give, and what they leave is the outcome (proofs/Reports).
+-- A family that passes the refusals is accepted by the whole-network cost, over the genes built from its lines.
 -- Assumes nothing.
-use Rattle.std.proofs.Common.{refl}
-use Rattle.finite.specs.Tables.{zeros}
-use Rattle.layout.specs.inner.Results.{blank}
-use Rattle.family.proofs.Reports.{prepares, whole_ready, whole_room, nodes_small, genes_small, report_room, totals_fit, written_family}
+use Rattle.family.proofs.Reports.{whole_ready}
 use Rattle.family.proofs.write.Goals as goal
 
-pub invariant_of-given : goal.invariant_of-given
-invariant_of-given c = let S = c.requires.0 in let P = c.requires.1 in record { prepared = prepares c.args.network _ _ S P _ c.build-genes.ensures }
-
-pub run-found-requires : goal.run-found-requires
-unfolding zeros blank
-run-found-requires c = (refl, refl, refl)
-
-pub fill-whole-requires : goal.fill-whole-requires
-fill-whole-requires c = let S = c.requires.0 in let P = c.requires.1 in let E = c.build-genes.ensures in
-    (whole_ready c.args.network _ _ S P _ E, whole_room c.args.network _ _ S P _ E)
-
-pub invariant_of-tabled : goal.invariant_of-tabled
-invariant_of-tabled c = let S = c.requires.0 in let P = c.requires.1 in let E = c.build-genes.ensures in
-    let T = c.fill-whole.ensures in
-    let F = c.run-found.ensures in
-    record { small_nodes = nodes_small c.args.network _ _ S P _ E _ _ _ T _ _ _ _ F; small_genes = genes_small c.args.network _ _ S P _ E _ _ _ T _ _ _ _ F }
-
-pub write_report-requires : goal.write_report-requires
-write_report-requires c = let S = c.requires.0 in let P = c.requires.1 in let E = c.build-genes.ensures in
-    let T = c.fill-whole.ensures in
-    let F = c.run-found.ensures in
-    record { small = totals_fit c.args.network _ _ S P _ E _ _ _ T _ _ _ _ F _ c.totals-t.ensures; room = report_room c.args.network _ _ S P _ E _ _ _ T _ _ _ _ F }
-
-pub returns : goal.returns
-returns c = let S = c.requires.0 in let P = c.requires.1 in let E = c.build-genes.ensures in
-    let w = c.write_report.ensures in
-    written_family c.args.network _ _ S P _ E _ _ _ c.fill-whole.ensures _ _ _ _ c.run-found.ensures _ c.totals-t.ensures _ _ _ w.bytes w.end
+pub source_of-source-requires : goal.source_of-source-requires
+source_of-source-requires c = whole_ready c.args.network _ _ c.requires.0 c.requires.1 _ c.build-genes.ensures

@@ -12,6 +12,9 @@ use Rattle.layout.specs.Headers.{costs, WithinLimits}
 use Rattle.layout.specs.declared.Header.{Header}
 use Rattle.layout.specs.declared.lines.Lines.{Lines}
 use Rattle.layout.specs.declared.parts.Parts.{Parts}
+use Rattle.layout.specs.inner.Genes.{gene_tree}
+use Rattle.gene_tree.specs.Genes.{gene_tree_of}
+use Rattle.whole_network.specs.declared.source.Source.{Source}
 use Rattle.network.specs.Refusals.{network_refusals}
 use Rattle.components.specs.Refusals.{component_refusals}
 use Rattle.gene_tree.specs.Refusals.{gene_refusals}
@@ -38,6 +41,11 @@ pub record Passed (X : Contents) : Type 0 where
   pub component : verdict (component_refusals X.nodes) ≡ 0
   pub genes : verdict (gene_refusals X.nodes X.genes) ≡ 0
 
+-- the genes and the arcs from which the whole network is filled are those of the lines
+pub record SourceOf (lines : Lines) (source : Source) : Type 0 where
+  pub same_lines : source.lines.now ≡ lines
+  pub tree : gene_tree lines.header.genes source.genes.now ≡ gene_tree_of (nodes_of lines) (genes_of lines)
+
 -- the numbers of the report's first two lines, by what was found and by the tables
 unfoldable pub totals_by : Lines → Parts → Found → ℕ → Totals
 totals_by lines parts found whole = record {
@@ -53,8 +61,12 @@ totals_by lines parts found whole = record {
   components = count lines.header.nodes (λ c. not (same (reticulation_count parts c) 0));
 }
 
--- the report is written over the front of the result, which was d and is e, and the table over that of the scratch, which was u and is t
-pub record Written (X : Contents) (d e u t : List ℕ) (r : ℕ) : Type 0 where
-  pub result : e ≡ written d (report_in X)
+-- these bytes are written over the front of the result, which was d and is e, and the table over that of the scratch, which was u and is t
+pub record Overwritten (X : Contents) (piece d e u t : List ℕ) (r : ℕ) : Type 0 where
+  pub result : e ≡ written d piece
   pub scratch : t ≡ words (family_in X) ++ drop (X.genes.count * X.nodes.size) u
-  pub bytes : r ≡ length (report_in X)
+  pub bytes : r ≡ length piece
+
+-- the report is
+abbrev pub Written : Contents → (d e u t : List ℕ) → ℕ → Type 0
+Written X d e u t r = Overwritten X (report_in X) d e u t r

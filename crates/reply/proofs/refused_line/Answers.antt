@@ -1,7 +1,6 @@
 -- The six columns replace the spaces and the 0 after the word, and the line feed stays.
 -- Assumes nothing.
 use Rattle.std.proofs.Common.{arith}
-use Rattle.refusals.specs.Numbers.{number}
 use Rattle.refusals.proofs.Numbers.{few}
 use Rattle.reply.proofs.Told.{told}
 use Rattle.reply.proofs.refused_line.Goals as goal

@@ -14,4 +14,4 @@ write_answer-requires c = room_kept _ c.score-answer.ensures (omega (arith, c.re
 pub returns : goal.returns
 returns c = let a = c.requires in
     let w = c.write_answer.ensures in
-    replied _ _ a.0 a.2 (search rules) c.score-answer.ensures w.0 w.1
+    replied _ _ _ _ a.0 a.2 (search rules) (omega arith) c.score-answer.ensures w.0 w.1

@@ -1,31 +1,46 @@
 -- The chosen history as loops write it (02, (ii), "for each gene, rising"): a table holds where each gene starts, and a gene's own steps, its walk, lead to
 -- its last, which says where its children start. A parent has a lower number, so the table has each gene's start in time.
 -- Assumes nothing.
-use Rattle.std.specs.Prelude.{Bool, cond, List, [], ◌∷◌, ℕ, zero, suc, ◌+◌, ◌*◌, min, set}
+use Rattle.std.specs.Prelude.{◌≡◌, ◌≤◌, ◌<◌, Bool, cond, List, [], ◌∷◌, ℕ, zero, suc, ◌+◌, ◌*◌, min, set}
 use Rattle.std.proofs.Math.Option.{Option, none, some}
-use Rattle.finite.specs.Tests.{same, under}
+use Rattle.finite.specs.Tests.{same}
 use Rattle.finite.specs.Tables.{at, zeros}
 use Rattle.histories.specs.Histories.{Gene, tip, pair, Family, least}
-use Rattle.tellings.specs.Steps.{Step, code, first, second, Line, line}
+use Rattle.tellings.specs.Steps.{Step, rests, speciates, duplicates, transfers, loses_going_down, loses_by_transfer, passes_free, code, first, second, Line, line}
 use Rattle.tellings.specs.Chosen.{Onward, ends, splits, goes, onward, choice, chosen_start}
 
--- a step as one number, nodes being below 128: lower numbers are sooner steps, and no step has `no_key`
-unfoldable pub key : Step → ℕ
-key s = (code s * 128 + first s) * 128 + second s
+-- gene g may start at node v: it has a history there
+pub record MayStart (F : Family) (g v : ℕ) : Type 0 where
+  pub low : 1 ≤ v
+  pub high : v ≤ F.nodes
+  pub cost : ℕ
+  pub finite : least F g v ≡ some cost
 
-abbrev pub no_key : ℕ
-no_key = 114688
+-- a step as one number, nodes being below 128: lower numbers are sooner steps, and no step has `no_step`
+unfoldable pub step_number : Step → ℕ
+step_number s = (code s * 128 + first s) * 128 + second s
 
-unfoldable pub keyed : Option Step → ℕ
-keyed none = no_key
-keyed (some s) = key s
+abbrev pub no_step : ℕ
+no_step = 114688
 
--- what follows a step and what it costs, by its code and nodes
-unfoldable pub onward_by : (c p q : ℕ) → Onward
-onward_by c p q = cond (same c 0) ends (cond (under c 4) (splits p q) (goes p))
+unfoldable pub number_or : Option Step → ℕ
+number_or none = no_step
+number_or (some s) = step_number s
 
-unfoldable pub cost_by_code : Family → ℕ → ℕ
-cost_by_code F c = cond (same c 2) F.costs.duplication (cond (same c 3) F.costs.transfer (cond (same c 4) F.costs.loss (cond (same c 5) (F.costs.transfer + F.costs.loss) 0)))
+-- the nodes of a step have numbers below 128
+pub record Low (s : Step) : Type 0 where
+  pub first_low : first s < 128
+  pub second_low : second s < 128
+
+-- the step with this code and these nodes
+unfoldable pub step_by : (c p q : ℕ) → Step
+step_by c p q = cond (same c 0) rests (cond (same c 1) (speciates p q) (cond (same c 2) (duplicates p) (cond (same c 3) (transfers p q)
+    (cond (same c 4) (loses_going_down p) (cond (same c 5) (loses_by_transfer p) (passes_free p))))))
+
+-- what holds of each step of a list
+unfoldable pub Each : (Step → Type 0) → List Step → Type 0
+Each P [] = Unit {0}
+Each P (s ∷ l) = P s × Each P l
 
 -- the lowest number of the steps that pass a test, and of `best`: one offer after another
 unfoldable pub offer : Bool → ℕ → ℕ → ℕ
@@ -33,7 +48,7 @@ offer b k best = cond b (min k best) best
 
 unfoldable pub offers : (Step → Bool) → List Step → ℕ → ℕ
 offers f [] best = best
-offers f (s ∷ l) best = offers f l (offer (f s) (key s) best)
+offers f (s ∷ l) best = offers f l (offer (f s) (step_number s) best)
 
 -- f from the node that a gene moves on to, e where it does not move on
 unfoldable pub unless_gone : {A : Type 0} → (Onward → A) → (ℕ → A) → Onward → A
@@ -79,5 +94,5 @@ starts F (suc x) = let t = starts F x in settle (F.gene (suc x)) (leave F (suc x
 
 -- whoever unfolds this unfolds all of this file
 unfoldable pub open_Walks : Unit {0}
-unfolding key keyed onward_by cost_by_code offer offers unless_gone line_then last_of walk_in leave_in walk leave settle starts
+unfolding step_number number_or step_by Each offer offers unless_gone line_then last_of walk_in leave_in walk leave settle starts
 open_Walks = tt

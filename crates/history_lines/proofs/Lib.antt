@@ -1,0 +1,3 @@
+pub mod Walks
+pub mod Genes
+pub mod Starts

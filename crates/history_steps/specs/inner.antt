@@ -1,0 +1,2 @@
+pub mod StepChoices
+pub mod Tables
