@@ -1,5 +1,5 @@
--- A turn by the words of the table judges the steps as the least costs do: its rows are those of the gene and of its children, and they may be read wherever
--- a step leads. So the lowest number that it finds is that of the step to take.
+-- The choice by the words of the table judges the steps as the least costs do: its rows are those of the gene and of its children, and they may be read
+-- wherever a step leads. So the lowest number that it finds is that of the step to take.
 -- Assumes nothing.
 use Rattle.std.proofs.Common.{◌≡◌, refl, sym, ap, ◌∙◌, subst, ◌≢◌, Bool, true, false, cond, List, [], ◌∷◌, ◌++◌, ℕ, ◌+◌, ◌-◌, ◌*◌, ◌/◌, ◌%◌, ◌≤◌, ◌<◌, arith, length, length-drop, drop, get_or}
 use mathlib.Core.Option.{some}
@@ -107,7 +107,7 @@ module _ (f : Source) (s : List ℕ) (T : Tabled f s) (r : Row) (R : RowOf f r) 
     unfolding family_of gene_tree nodes_in
     right_cells = cells (right f.genes.now g) b kind.2 (omega (arith, (ready f).graded.right_more g _ _ gene)) ((ready f).graded.right_in g _ _ gene)
 
-  -- the turn's rows begin in the table, and the node's word stands there
+  -- its rows begin in the table, and the node's word stands there
   begun : (k : Kind) → r.kind ≡ k → BeginIn s k
   begun (Tip j) is = tt
   begun (Pair a b) is = (begins a (left_cells a b is v M.low node_high), begins b (right_cells a b is v M.low node_high))

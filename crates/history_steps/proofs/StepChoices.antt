@@ -1,4 +1,4 @@
--- A turn of the choice: the words of the rows add up to what a step costs with what follows it, so a step's test on words is its test on costs.
+-- The words of the rows add up to what a step costs with what follows it, so a step's test on words is its test on costs.
 -- Assumes nothing.
 use Rattle.std.proofs.Common.{◌≡◌, refl, sym, ap, ◌∙◌, ◌⊎◌, inl, inr, Bool, List, [], ◌∷◌, ◌++◌, ℕ, ◌≤◌, arith, add_assoc, min}
 use mathlib.Core.Option.{none, some}

@@ -1,4 +1,4 @@
--- The turn by the words of the table judges the steps as the least costs do (proofs/Choices), so the step of the lowest number is the choice.
+-- What the steps cost by the words of the table judges them as the least costs do (proofs/Choices), so the step of the lowest number is the choice.
 -- Assumes nothing.
 use Rattle.history_steps.proofs.Choices.{node_few, choice_asks, choice_ready, choice_fit, chosen}
 use Rattle.history_steps.proofs.choose.Goals as goal

@@ -1,5 +1,4 @@
--- A turn of the choice: the step told by the code's name, and what the steps of a gene at a node cost, read from rows of words (crate tellings has the steps
--- and their order).
+-- What the steps of a gene at a node cost, read from rows of words, and which of them the choice is made of (crate tellings has the steps and their order).
 -- Assumes nothing.
 use Rattle.std.specs.Prelude.{◌≡◌, Bool, List, ◌++◌, ℕ, ◌+◌, ◌-◌, ◌≤◌, ◌<◌, length, drop, get_or, Option, Some, None}
 use Rattle.std.proofs.Math.Option.{some}
@@ -51,7 +50,7 @@ following own left right (goes w) = own w
 unfoldable pub spent : StepChoice → Step → Cost
 spent t s = then (step_cost (costs t.header) s) (following (cost_at t.own.now) (left_cost t.children) (right_cost t.children) (onward s))
 
--- whether that is the least cost of the turn
+-- whether that is the least cost there
 unfoldable pub attains : StepChoice → Step → Bool
 attains t s = same_cost (spent t s) (some t.least)
 
@@ -95,7 +94,7 @@ abbrev pub ChildRows : List ℕ → ℕ → Kind → Children → Type 0
 ChildRows s k (Tip j) c = (c.left.now ≡ drop k s) × (c.right.now ≡ drop k s)
 ChildRows s k (Pair a b) c = (c.left.now ≡ drop a s) × (c.right.now ≡ drop b s)
 
--- the turn of a row's gene at node v, by the words s of the table
+-- the choice of a row's gene at node v, by the words s of the table
 pub record ChoiceAt (h : Header) (s : List ℕ) (r : Row) (v : ℕ) (t : StepChoice) : Type 0 where
   pub header : t.header ≡ h
   pub own : t.own.now ≡ drop r.start s
