@@ -1,7 +1,7 @@
 -- A number's columns, column by column. A number below 1,000,000 has one to six digits; in each of the six cases its numeral is found by that many
 -- divisions by ten, and each column is the byte that its place value gives (`columns_are`).
 -- Assumes nothing.
-use Rattle.std.proofs.Common.{ℕ, zero, suc, ◌+◌, ◌-◌, ◌*◌, ◌/◌, ◌%◌, ◌≤◌, ◌<◌, ◌≡◌, refl, ap, cond, List, [], ◌∷◌, ◌++◌, length, get_or, drop, length-append, length-drop, get_or-take, get_or-drop, ext_get_or, length-take-le, ltb, lit≤, mul-le-mul, arith, lt-ltb, le-ltb}
+use Rattle.std.proofs.Common.{ℕ, zero, suc, ◌+◌, ◌-◌, ◌*◌, ◌/◌, ◌%◌, ◌≤◌, ◌<◌, ◌≡◌, refl, ap, cond, List, [], ◌∷◌, ◌++◌, length, get_or, drop, length-append, length-drop, get_or-take, get_or-drop, ext_get_or, length-take-le, ltb, lit<, lit≤, mul-le-mul, arith, lt-ltb, le-ltb}
 use lib.ListN.{length-replicate}
 use native.Mathlib.Nat.{div-div-eq-div-mul}
 use Rattle.finite.proofs.Cases.{by_less}
@@ -117,6 +117,12 @@ below_six P a b c d e f (suc (suc (suc zero))) h = d
 below_six P a b c d e f (suc (suc (suc (suc zero)))) h = e
 below_six P a b c d e f (suc (suc (suc (suc (suc zero))))) h = f
 below_six P a b c d e f (suc (suc (suc (suc (suc (suc k)))))) h = absurd (omega arith)
+
+place_positive : (k : ℕ) → k < 6 → 0 < place_value k
+place_positive = below_six (λ k. 0 < place_value k) (lit< tt) (lit< tt) (lit< tt) (lit< tt) (lit< tt) (lit< tt)
+
+pub worth_positive : (k p : ℕ) → k < 6 → p ≡ place_value k → 0 < p
+worth_positive k p l e = rw e (place_positive k l)
 
 place_bound : (k : ℕ) → k < 6 → place_value k ≤ 100000
 place_bound = below_six (λ k. place_value k ≤ 100000) (lit≤ tt) (lit≤ tt) (lit≤ tt) (lit≤ tt) (lit≤ tt) (lit≤ tt)

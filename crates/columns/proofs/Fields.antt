@@ -14,6 +14,9 @@ use Rattle.columns.proofs.Columns.{columns_are, length_columns, six_at, six_colu
 pub digit_byte : (d : ℕ) → d < 10 → digit_of (48 + d) ≡ d
 digit_byte d h = simp (le-ltb (48 + d) 48 (omega arith), le-ltb 57 (48 + d) (omega arith)) (omega arith)
 
+pub mod_ten : (x : ℕ) → x % 10 < 10
+mod_ten x = omega arith
+
 -- a column counts for its digit, also where it is a space
 pub column_digit : (n p : ℕ) → digit_of (cond (ltb n p) 32 (48 + n / p % 10)) ≡ n / p % 10
 column_digit n p = by_bool (ltb n p)

@@ -160,7 +160,7 @@ pub blank_fits : (s : List ℕ) (at k : ℕ) → k < 6 → Blank s at k → (j :
 blank_fits s at k h b j l = rw (blank_worth s at k h b j (omega arith), b.spaces j l) (space_fits (5 - j) (λ q. omega arith))
 
 -- a turn of the loop that reads: the value of a byte that fits, and what the columns are worth with it
-value_small : (b w k v : ℕ) → fitting b w k ≡ true → v ≡ b % 16 → v ≤ 9
+pub value_small : (b w k v : ℕ) → fitting b w k ≡ true → v ≡ b % 16 → v ≤ 9
 value_small b w k v fit e = rw (e, low_bits b w k fit) (digit_small b)
 
 -- so no turn adds more than 900,000

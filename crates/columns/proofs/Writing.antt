@@ -1,8 +1,8 @@
 -- Writing into the front of a part that is lent. A loop keeps what is written so far, then the rest as it was (`written`); a part `&mut d[at..]`
 -- that comes back written is the whole written at `at` (`lent`), and writing twice one after the other is writing both (`put_written`).
 -- Assumes nothing.
-use Rattle.std.proofs.Common.{ℕ, suc, ◌+◌, ◌-◌, ◌≤◌, ◌<◌, ◌≡◌, refl, sym, ap, ◌∙◌, List, [], ◌++◌, append_assoc, append-nil, length, get_or, take, drop, set, replicate, length-append, length-drop, take-append-drop, drop_of_length-le, take_at, drop_at, take_all, drop-drop, length-take-le, get_or-drop, arith, lt-ltb}
-use lib.Seq.{paste, paste-suc}
+use Rattle.std.proofs.Common.{ℕ, suc, ◌+◌, ◌-◌, ◌≤◌, ◌<◌, ◌≡◌, refl, sym, ap, ◌∙◌, List, [], ◌∷◌, ◌++◌, append_assoc, append-nil, length, get_or, take, drop, set, replicate, length-append, length-drop, take-append-drop, drop_of_length-le, take_at, drop_at, take_all, drop-drop, length-take-le, get_or-drop, add-one, arith, lt-ltb}
+use lib.Seq.{paste, paste-suc, set_split, drop-append-add}
 use borrow.Rule.Slice.PartMut.{put_mid}
 use Rattle.columns.specs.Fields.{columns, column_of}
 use Rattle.columns.specs.inner.Scans.{front_count}
@@ -27,6 +27,10 @@ pub length_written : (d bs : List ℕ) → length bs ≤ length d → length (wr
 unfolding written
 length_written d bs h = length-append bs (drop (length bs) d) ∙ omega (arith, length-drop (length bs) d)
 
+pub length_put : (d : List ℕ) (at : ℕ) (bs : List ℕ) → at + length bs ≤ length d → length (put d at bs) ≡ length d
+unfolding put
+length_put d at bs h = rw (length-append, length_written (drop at d) bs (simp length-drop (omega arith)), length-take-le at d (omega arith), length-drop) (omega arith)
+
 -- one piece after another: the law of everything that writes lines one after the other
 pub put_written : (d p bs : List ℕ) (at : ℕ) → at ≡ length p → put (written d p) at bs ≡ written d (p ++ bs)
 unfolding put written
@@ -39,6 +43,24 @@ put_put d at next p bs h e =
     let l : length (take at d ++ p) ≡ next = length-append (take at d) p ∙ rw (length-take-le at d h) (sym e) in
     rw (f, take_at (take at d ++ p) (drop (length p) (drop at d)) next l, drop_at (take at d ++ p) (drop (length p) (drop at d)) next l, drop-drop, length-append)
     (simp append_assoc)
+
+-- one element more, behind the others
+set_put : (x : List ℕ) (k n : ℕ) → k < length x → set x k n ≡ put x k (n ∷ [])
+unfolding put written
+set_put x k n h = set_split x k n h ∙ rw (drop-drop, add-one)
+
+pub put_set : (d ns : List ℕ) (at i n : ℕ) → length ns ≡ i → at + i < length d → set (put d at ns) (at + i) n ≡ put d at (ns ++ (n ∷ []))
+put_set d ns at i n e h = set_put (put d at ns) (at + i) n (omega (arith, length_put d at ns (omega arith))) ∙ put_put d at (at + i) ns (n ∷ []) (omega arith) (omega arith)
+
+-- what is put over another piece covers it, if it is no shorter
+pub put_over : (d p q : List ℕ) (at : ℕ) → at ≤ length d → length p ≤ length q → put (put d at p) at q ≡ put d at q
+unfolding put written
+put_over d p q at h l =
+    let t : length (take at d) ≡ at = length-take-le at d h in
+    let k : length q ≡ length p + (length q - length p) = omega arith in
+    let c : drop (length q) (p ++ drop (length p) (drop at d)) ≡ drop (length q) (drop at d) =
+    rw k (drop-append-add p (drop (length p) (drop at d)) (length q - length p) ∙ drop-drop (length q - length p) (length p) (drop at d)) in
+    rw (take_at (take at d) (p ++ drop (length p) (drop at d)) at t, drop_at (take at d) (p ++ drop (length p) (drop at d)) at t, c)
 
 -- a part from `at` to the end that comes back with bs written: the whole has bs put at `at`
 pub lent : (d e : List ℕ) (at : ℕ) (bs : List ℕ) → at ≤ length d

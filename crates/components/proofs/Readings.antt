@@ -50,10 +50,14 @@ module _ (L : NodeLines) where
   unfolding component_refusals
   components_tell ok = one_more (record { some = λ e. let z : ◌≡◌ {A = ℕ} 11 0 = e in omega arith; small = omega arith; yes = (reading_11 (network L) ok).0; refused = (reading_11 (network L) ok).1 }) (λ _. no_more)
 
-  -- the verdict where the test holds
+  -- the verdict by the test
   pub verdict_crowded : refusal11 (network L) ≡ true → verdict (component_refusals L) ≡ 11
   unfolding component_refusals verdict
   verdict_crowded t = rw t
+
+  pub verdict_uncrowded : refusal11 (network L) ≡ false → verdict (component_refusals L) ≡ 0
+  unfolding component_refusals verdict
+  verdict_uncrowded t = rw t
 
   pub components_accepted : verdict (component_refusals L) ≡ 0 → refusal11 (network L) ≡ false
   components_accepted z = by_bool (refusal11 (network L)) (λ t. let e : ◌≡◌ {A = ℕ} 11 0 = sym (verdict_crowded t) ∙ z in absurd (omega (arith, e))) (λ f. f)

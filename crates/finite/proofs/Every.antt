@@ -1,6 +1,6 @@
 -- A test over 1..n says the same as its statement at each index, or at some index; and the turns of a loop that tests.
 -- Assumes nothing.
-use Rattle.std.proofs.Common.{◌≡◌, refl, ◌≢◌, Bool, true, false, ℕ, zero, suc, ◌≤◌, ◌<◌, arith}
+use Rattle.std.proofs.Common.{◌≡◌, refl, ◌≢◌, Bool, true, false, not, ℕ, zero, suc, ◌≤◌, ◌<◌, arith}
 use Rattle.finite.specs.Range.{every, any, first}
 use Rattle.finite.proofs.Cases.{by_bool, by_eq, by_order, clash}
 use Rattle.finite.proofs.Tests.{is_same, not_same}
@@ -20,6 +20,11 @@ is_every (suc k) f h = rw (h (suc k) (omega arith) (omega arith)) (is_every k f 
 
 pub every_fails : (n v : ℕ) (f : ℕ → Bool) → 1 ≤ v → v ≤ n → f v ≡ false → every n f ≡ false
 every_fails n v f l u t = by_bool (every n f) (λ e. clash (every_at n f e v l u) t) (λ e. e)
+
+pub every_same : (n : ℕ) (f g : ℕ → Bool) → ((v : ℕ) → 1 ≤ v → v ≤ n → f v ≡ g v) → every n f ≡ every n g
+unfolding every
+every_same zero f g e = refl
+every_same (suc k) f g e = rw (e (suc k) (omega arith) (omega arith), every_same k f g (λ v l u. e v l (omega arith)))
 
 -- where not each passes, one fails
 pub not_every : (n : ℕ) (f : ℕ → Bool) → every n f ≡ false → (v : ℕ) × (1 ≤ v) × (v ≤ n) × (f v ≡ false)
@@ -45,6 +50,12 @@ is_some (suc k) v f l u t = by_eq v (suc k) (λ e. let q : f (suc k) ≡ true = 
 -- where none passes, each fails
 pub not_some : (n : ℕ) (f : ℕ → Bool) → any n f ≡ false → (v : ℕ) → 1 ≤ v → v ≤ n → f v ≡ false
 not_some n f e v l u = by_bool (f v) (λ t. clash (is_some n v f l u t) e) (λ t. t)
+
+-- some passes just where not each fails
+pub some_every : (n : ℕ) (f : ℕ → Bool) → any n f ≡ not (every n (λ v. not (f v)))
+unfolding any every
+some_every zero f = refl
+some_every (suc k) f = by_bool (f (suc k)) (λ t. rw t) (λ t. rw t (some_every k f))
 
 pub some_same : (n : ℕ) (f g : ℕ → Bool) → ((v : ℕ) → 1 ≤ v → v ≤ n → f v ≡ g v) → any n f ≡ any n g
 unfolding any

@@ -36,3 +36,9 @@ module _ (f : ℕ → ℕ) where
   least_in (suc k) l = by_less (f k) (f (first_least f k))
       (λ t. rw (least_take k t) (omega arith))
       (λ t. rw (least_keep k t) (by_eq k 0 (λ e. rw e (omega (arith, least_none))) (λ q. omega (arith, least_in k (omega arith)))))
+
+-- no other index is least and first
+pub least_only : (f : ℕ → ℕ) (k j : ℕ) → j < k → ((i : ℕ) → i < k → f j ≤ f i) → ((i : ℕ) → i < j → f j < f i) → first_least f k ≡ j
+least_only f k j l least before = by_less (first_least f k) j
+    (λ t. absurd (omega (arith, before (first_least f k) t, least_is f k j l)))
+    (λ t. by_less j (first_least f k) (λ u. absurd (omega (arith, least_first f k j u, least (first_least f k) (least_in f k (omega arith))))) (λ u. omega arith))

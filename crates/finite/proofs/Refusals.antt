@@ -56,6 +56,13 @@ first_told [] no_more k f = absurd f
 first_told (r ∷ rs) (one_more t ts) k (inl (c, e)) = verdict_here r rs (t.refused c) ∙ e
 first_told (r ∷ rs) (one_more t ts) k (inr (n, f)) = verdict_later r rs (untold t n) ∙ first_told rs (ts (untold t n)) k f
 
+-- and its number is not 0
+pub first_some : (rs : List Refusal) → AllTell rs → (k : ℕ) → First rs k → k ≢ 0
+unfolding First
+first_some [] no_more k f = absurd f
+first_some (r ∷ rs) (one_more t ts) k (inl (c, e)) = λ z. t.some (e ∙ z)
+first_some (r ∷ rs) (one_more t ts) k (inr (n, f)) = first_some rs (ts (untold t n)) k f
+
 -- only one number is that of the first, and none is where none applies
 pub first_one : (rs : List Refusal) (j k : ℕ) → First rs j → First rs k → j ≡ k
 unfolding First

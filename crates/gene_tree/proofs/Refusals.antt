@@ -155,6 +155,10 @@ module _ (L : NodeLines) (K : GeneLines) where
   unfolding species_refusals
   verdict_13 t = verdict_here _ _ t
 
+  pub past_13 : refusal13 L K ≡ false → verdict (species_refusals L K) ≡ 0
+  unfolding species_refusals verdict
+  past_13 t = rw t
+
 -- verdict 0: neither applies
 module _ (L : NodeLines) (K : GeneLines) (ok : verdict (gene_refusals L K) ≡ 0) where
   pub accept_12 : refusal12 K ≡ false

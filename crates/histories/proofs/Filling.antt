@@ -131,9 +131,12 @@ module _ {F : Family} {order : ℕ → ℕ} (P : Prepared F order) where
         (λ d. p.above.holds h v (omega arith) uh lv uv);
   }
 
--- before the first row there are none, and what is not written is kept
+-- before the first row there are none, what is not written is kept, and what is kept twice is kept
 pub rows_none : (F : Family) (s : List ℕ) → Rows F s F.genes
 rows_none F s = record { holds = λ g v a b lv uv. absurd (omega arith) }
 
 pub kept_none : (F : Family) (s : List ℕ) → Kept F s s
 kept_none F s = record { long = refl; rest = λ i l. refl }
+
+pub kept_on : (F : Family) (s u w : List ℕ) → Kept F s u → Kept F u w → Kept F s w
+kept_on F s u w a b = record { long = b.long ∙ a.long; rest = λ i l. b.rest i l ∙ a.rest i l }

@@ -294,7 +294,7 @@ module _ {h : Header} {t : Table} {g : Genes} (F : Family h t g) where
       not_parent : (j : ℕ) → G.parent j ≢ k
       not_parent j q = F.rooted.parent_inner j (λ z. omega arith) (ap G.left q ∙ e)
 
-      upto_leaf : Upto T G (costs h) (k - 1) r s
+      pub upto_leaf : Upto T G (costs h) (k - 1) r s
       upto_leaf = record {
         lent = u.lent;
         places = λ j a b. by_eq j k (λ p. rw p (u.lent.leaf_places k low lg e ∙ sym (place_leaf T G F.rooted k e))) (λ d. u.places j (omega arith) b);
@@ -339,13 +339,13 @@ module _ {h : Header} {t : Table} {g : Genes} (F : Family h t g) where
       place_b : R.place r b ≡ place T G b
       place_b = u.places b above_b in_b
 
-      seats : Seats h.nodes t r a b
+      pub seats : Seats h.nodes t r a b
       seats = record {
         left = rw place_a (place_node T ok G F.rooted F.seated a (omega (arith, above_a)) in_a);
         right = rw place_b (place_node T ok G F.rooted F.seated b (omega (arith, above_b)) in_b);
       }
 
-      inner_few : (k ≤ 127) × (a ≤ 127) × (b ≤ 127)
+      pub inner_few : (k ≤ 127) × (a ≤ 127) × (b ≤ 127)
       inner_few = (omega (arith, lk), omega (arith, in_a, genes_few), omega (arith, in_b, genes_few))
 
       module _ (p : Pair) (i : Paired T (R.place r a) (R.place r b) p) where
@@ -387,7 +387,7 @@ module _ {h : Header} {t : Table} {g : Genes} (F : Family h t g) where
         more_losses : p.left.losses + p.right.losses ≡ of_children G (losses T G) k
         more_losses = rw (left_way.1, right_way.1) (of_children_lem (losses T G))
 
-        room : Room h s p
+        pub room : Room h s p
         room = record {
           duplication = F.limits.duplication;
           duplications = omega (arith, duplications_low);

@@ -18,7 +18,7 @@ use Rattle.displayed.proofs.Meeting as M
 use Rattle.mapping.specs.inner.Climbs.{fork_in, tree_of, Climbable, Light, starting, climbed_by, Meeting}
 use Rattle.mapping.specs.declared.Climber.{Climber}
 
-fork_le : (t : Table) (v : ℕ) → fork_in t v ≤ 1
+pub fork_le : (t : Table) (v : ℕ) → fork_in t v ≤ 1
 unfolding fork_in
 fork_le t v = tally_le (same (arcs t v) 2)
 
@@ -40,7 +40,7 @@ pub record Climbing (T : Displayed) (t : Table) (x y : ℕ) (l r : Climber) : Ty
 
 -- what the table tells at a node
 module _ (n : ℕ) (t : Table) (K : Climbable n t) (a : ℕ) (k : NodeOf (tree_of n t) a) where
-  node_low : 1 ≤ a
+  pub node_low : 1 ≤ a
   node_low = k.low
 
   pub node_high : a ≤ n
@@ -51,11 +51,11 @@ module _ (n : ℕ) (t : Table) (K : Climbable n t) (a : ℕ) (k : NodeOf (tree_o
   unfolding tree_of
   up_is = read_up n (up t) (rank t) (moves t) (fork_in t) a node_low node_high
 
-  rank_is : (tree_of n t).rank a ≡ rank t a
+  pub rank_is : (tree_of n t).rank a ≡ rank t a
   unfolding tree_of
   rank_is = read_rank n (up t) (rank t) (moves t) (fork_in t) a node_low (K.ranks a node_low node_high)
 
-  move_is : tally (lateral t a) ≡ move (tree_of n t) a
+  pub move_is : tally (lateral t a) ≡ move (tree_of n t) a
   unfolding tree_of
   move_is = sym (read_lateral n (up t) (rank t) (moves t) (fork_in t) a (tally_le (lateral t a)))
 
@@ -63,10 +63,10 @@ module _ (n : ℕ) (t : Table) (K : Climbable n t) (a : ℕ) (k : NodeOf (tree_o
   unfolding tree_of
   mark_is = sym (ap (λ (v : ℕ). tally ((tree_of n t).forks v)) up_is ∙ read_forks n (up t) (rank t) (moves t) (fork_in t) (up t a) (fork_le t (up t a)))
 
-  node_few : a ≤ 127
+  pub node_few : a ≤ 127
   node_few = omega (arith, node_high, K.few)
 
-  up_few : up t a ≤ 127
+  pub up_few : up t a ≤ 127
   up_few = omega (arith, K.ups a, K.few)
 
 module _ {n : ℕ} {t : Table} {x y : ℕ} (K : Climbable n t) (nodes : NodeOf (tree_of n t) x × NodeOf (tree_of n t) y) where

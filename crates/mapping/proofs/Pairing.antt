@@ -27,7 +27,7 @@ use Rattle.mapping.specs.declared.Steps.{Steps}
 use Rattle.mapping.proofs.Meeting.{node_high, up_is, mark_is}
 
 -- the event is a duplication just where a child stays
-stays_or_not : (sent : Bool) (b x y : ℕ) → same (event_by sent b x y) 2 ≡ (same x b || same y b)
+pub stays_or_not : (sent : Bool) (b x y : ℕ) → same (event_by sent b x y) 2 ≡ (same x b || same y b)
 unfolding event_by
 stays_or_not sent b x y = by_bool (same x b || same y b) (λ h. rw h (is_same {m = 2} refl)) (λ h. rw h (other sent))
   where
@@ -119,7 +119,7 @@ module _ {n : ℕ} {t : Table} {x y : ℕ} (K : Climbable n t) (nodes : NodeOf (
     unfolding tree_of tree_in
     lateral_is e = by_bool (lateral t e) (λ y. rw y (sym (is_same {m = 1} refl))) (λ f. rw f (sym (not_same {m = 0} {n = 1} (λ q. omega arith))))
 
-    sends_last : sent_by t c d ≡ sends T b
+    pub sends_last : sent_by t c d ≡ sends T b
     unfolding sent_by
     sends_last = rw (lateral_is c, lateral_is d) (by_bool (sends T b)
         (λ s. rw s (found (sends_is T b s)))
@@ -146,7 +146,7 @@ module _ {n : ℕ} {t : Table} {x y : ℕ} (K : Climbable n t) (nodes : NodeOf (
             pick (inr e) = right_yes (T.lateral c) (T.lateral d) (ap T.lateral (sym e) ∙ r.on)
 
   -- the event by the last arcs
-  event_last : event_by (sent_by t (departure T b x) (departure T b y)) b x y ≡ event_by (sends T b) b x y
+  pub event_last : event_by (sent_by t (departure T b x) (departure T b y)) b x y ≡ event_by (sends T b) b x y
   unfolding event_by
   event_last = by_eq x b (λ e. rw (is_same e)) (λ dx. by_eq y b (λ e. rw (is_same e) (both (same x b))) (λ dy. rw (sends_last dx dy)))
     where

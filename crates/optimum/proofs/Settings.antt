@@ -174,6 +174,10 @@ module _ (N : Network) (ok : Sound N) (c : ℕ) where
   pub setting_onto : (σ : Switching) → (x : ℕ) × (x < 2 ^ reticulation_count N c) × Agree N (setting_of N c x) σ c
   setting_onto σ = (number_at σ, number_low σ, agree_number (setting_of N c (number_at σ)) σ (setting_number (number_at σ) (number_low σ)))
 
+  -- and with one only
+  pub setting_one : (x y : ℕ) → x < 2 ^ reticulation_count N c → y < 2 ^ reticulation_count N c → Agree N (setting_of N c x) (setting_of N c y) c → x ≡ y
+  setting_one x y lx ly a = sym (setting_number x lx) ∙ number_agree (setting_of N c x) (setting_of N c y) a ∙ setting_number y ly
+
   number_order : (σ τ : Switching) → number_at σ ≤ number_at τ → NotAfter In σ τ
   number_order σ τ l = by_less (number_at σ) (number_at τ)
       (λ m. let f = number_less (member_of N c) σ τ N.size m in

@@ -1,21 +1,39 @@
 -- Refusals 8, 9 and 10 asked node by node, as the code asks. A leaf's species is borne by one node alone exactly when no other leaf bears it, once no node
 -- but a leaf has one; a child that is no reticulation is one by a principal arc.
 -- Assumes nothing.
-use Rattle.std.proofs.Common.{◌≡◌, refl, sym, ◌∙◌, ◌≢◌, Bool, true, not, ◌||◌, ℕ, ◌≤◌, arith}
-use mathlib.Core.Bool.{and_comm}
-use Rattle.finite.specs.Tests.{same}
+use Rattle.std.proofs.Common.{◌≡◌, refl, sym, ◌∙◌, ap, ◌≢◌, Bool, true, false, not, ◌&&◌, ◌||◌, ℕ, ◌+◌, ◌≤◌, arith}
+use mathlib.Core.Bool.{and_comm, or-false}
+use Rattle.finite.specs.Tests.{same, under}
 use Rattle.finite.specs.Range.{any, every, children}
 use Rattle.finite.proofs.Cases.{by_bool, by_eq, clash}
 use Rattle.std.proofs.lemmas.Bool.{or_left, or_right, not-true, not_from_false, not_from_true}
-use Rattle.finite.proofs.Tests.{is_same, same_is, not_same, same_not, test_iff, or_r}
+use Rattle.finite.proofs.Tests.{is_same, same_is, not_same, same_not, is_under, not_under, test_iff, or_r}
 use Rattle.finite.proofs.Every.{some_at, is_some, every_at, is_every}
 use Rattle.finite.proofs.Count.{count_two, count_some, count_find, count_zero, zero_count, count_another}
 use Rattle.topology.specs.Networks.{Node}
 use Rattle.topology.specs.Lines.{NodeLines, network}
 use Rattle.topology.proofs.Lines.{node_of, node_high}
-use Rattle.shapes.specs.Refusals.{leaf_at, refusal9, Refusal9, leaf_without, other_with_lem, two_alike, child_at, reticulation_if_child, only_reticulations_at, Child, by_principal, by_secondary}
+use Rattle.shapes.specs.Refusals.{reticulation_with, inner_with, leaf_with, shapeless, leaf_at, refusal9, Refusal9, leaf_without, other_with_lem, two_alike, child_at, reticulation_if_child, only_reticulations_at, Child, by_principal, by_secondary}
 use Rattle.shapes.specs.inner.ShortForms.{wrong_species, wrong_species_at, plain_parent, plain_parent_at, only_reticulations}
 use Rattle.shapes.proofs.Readings.{leaf_at_is, is_leaf_at, leaf_at_not, not_leaf_at, reading_9, child_is, is_child}
+
+-- 8: a node with a secondary parent is a reticulation or nothing, any other is an inner node or a leaf
+module _ (p s a b : ℕ) where
+  pub with_secondary : s ≢ 0 → shapeless p s a b ≡ not (not (same p 0) && same a 1 && same b 0)
+  unfolding shapeless reticulation_with inner_with leaf_with
+  with_secondary d = by_bool (same p 0) (λ t. rw (not_same d, t))
+      (λ t. rw (not_same d, t) (ap not (or-false ((same a 1 && same b 0) || false) ∙ or-false (same a 1 && same b 0))))
+
+  module _ (e : s ≡ 0) where
+    without : shapeless p s a b ≡ not ((same (a + b) 2 && under 0 a) || (same a 0 && same b 0))
+    unfolding shapeless reticulation_with inner_with leaf_with
+    without = by_bool (same p 0) (λ t. rw (is_same e, t)) (λ t. rw (is_same e, t))
+
+    pub no_principal : a ≡ 0 → shapeless p s a b ≡ not (same b 0)
+    no_principal z = without ∙ rw (is_same z, not_under {m = 0} {n = a} (omega arith)) (by_bool (same (a + b) 2) (λ t. rw t) (λ t. rw t))
+
+    pub some_principal : a ≢ 0 → shapeless p s a b ≡ not (same (a + b) 2)
+    some_principal d = without ∙ rw (not_same d, is_under {m = 0} {n = a} (omega arith)) (by_bool (same (a + b) 2) (λ t. rw t) (λ t. rw t))
 
 module _ (L : NodeLines) where
   abbrev bears : ℕ → ℕ → Bool

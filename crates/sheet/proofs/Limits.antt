@@ -1,8 +1,9 @@
 -- The limits of a header as a test and as inequalities: each is a conjunction of the same seven facts.
 -- Assumes nothing.
-use Rattle.std.proofs.Common.{ℕ, ◌≡◌, true, List, arith}
+use Rattle.std.proofs.Common.{ℕ, ◌≡◌, sym, true, false, List, arith}
 use Rattle.finite.specs.Tests.{under}
 use Rattle.finite.specs.Tables.{at}
+use Rattle.finite.proofs.Cases.{by_bool}
 use Rattle.finite.proofs.Tests.{is_under, under_is, and_l, and_r}
 use Rattle.layout.specs.Headers.{WithinLimits}
 use Rattle.sheet.specs.Sheets.{limits, header_by}
@@ -43,3 +44,6 @@ is_limits h k = rw (
   is_under {m = at h 3} {n = 100} (omega arith),
   is_under {m = at h 4} {n = 100} (omega arith),
 )
+
+pub beyond : (h : List ℕ) → (WithinLimits (header_by h) → ⊥) → false ≡ limits h
+beyond h no_way = by_bool (limits h) (λ t. absurd (no_way (limits_is h t))) (λ t. sym t)

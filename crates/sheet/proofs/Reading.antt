@@ -1,10 +1,11 @@
 -- The header's answer from what reading its line told, and the turns of the loops over the later lines: a line that is read passes its test, and its
 -- numbers go into the columns; one that is not fails it, and so fails the test of all.
 -- Assumes nothing.
-use Rattle.std.proofs.Common.{◌≡◌, ℕ, zero, suc, ◌+◌, ◌-◌, ◌*◌, ◌≤◌, List, set, Bool, true, false, ◌&&◌, is_some, refl, sym, ap, arith, Option, Some, None, Ok, Err}
+use Rattle.std.proofs.Common.{◌≡◌, ℕ, zero, suc, ◌+◌, ◌-◌, ◌*◌, ◌≤◌, List, length, set, Bool, true, false, ◌&&◌, is_some, refl, sym, ap, ◌∙◌, arith, Option, Some, None, Ok, Err}
 use Rattle.finite.specs.Tests.{same}
 use Rattle.finite.specs.Range.{every}
 use Rattle.finite.specs.Tables.{at, zeros, filled}
+use Rattle.finite.proofs.Tests.{is_same, not_same}
 use Rattle.finite.proofs.Every.{every_fails}
 use Rattle.std.proofs.lemmas.Option.{none-some, cond_some, some_pair_parts}
 use Rattle.text_lines.specs.Lines.{line_length, line_at, told_at}
@@ -12,7 +13,16 @@ use Rattle.columns.specs.declared.Cursor.{Cursor}
 use Rattle.refusals.specs.declared.Refusal.TheVariants.{NoHeader, BeyondLimits}
 use Rattle.layout.specs.declared.lines.NodeColumns.{NodeColumns}
 use Rattle.layout.specs.declared.lines.GeneColumns.{GeneColumns}
-use Rattle.sheet.specs.Sheets.{line_no, is_line, cell, header_by, limits, refusal3, refusal4, header_of, node_line, gene_line, told, node_columns, gene_columns}
+use Rattle.sheet.specs.Sheets.{line_no, is_line, cell, header_by, limits, refusal3, refusal4, header_of, whole, node_line, gene_line, told, node_columns, gene_columns}
+
+-- the length rule
+pub is_whole : (s : List ℕ) (n m l : ℕ) → l ≡ line_length * (1 + n + m) → length s ≡ l → true ≡ whole s n m
+unfolding whole
+is_whole s n m l e q = sym (is_same (q ∙ e))
+
+pub not_whole : (s : List ℕ) (n m l : ℕ) → l ≡ line_length * (1 + n + m) → (length s ≡ l → ⊥) → false ≡ whole s n m
+unfolding whole
+not_whole s n m l e q = sym (not_same (λ h. q (h ∙ sym e)))
 
 -- a line is told where it is read
 pub line_some : (s : List ℕ) (i : ℕ) (ns : List ℕ) (c : Cursor) → Some (ns, c) ≡ told_at (line_at s (line_length * i)).line (line_at s (line_length * i)).end

@@ -22,8 +22,12 @@ use Rattle.layout.proofs.Numbered.{secondary_in}
 use Rattle.optimum.specs.Optimum.{assembled}
 use Rattle.optimum.proofs.Settings.{setting_outside, setting_principal, index_bit}
 use Rattle.switching.specs.inner.Settings.{bit_of}
-use Rattle.switching.specs.inner.Turning.{turned, Turns, TurnedTo}
+use Rattle.switching.specs.inner.Turning.{turned, Turns, SomeHeld, TurnedTo}
 use Rattle.switching.proofs.Turning.{held_agree, turned_here, turned_other}
+
+pub bit_low : (x k j : ℕ) {b : ℕ} → b ≡ bit_of x k j → b ≤ 1
+unfolding bit_of
+bit_low x k j e = omega arith
 
 -- what the assembled switching says at a reticulation
 assembled_bit : (N : Network) → Sound N → (r : ℕ) → Reticulation N r → (settings : ℕ → ℕ)
@@ -35,6 +39,13 @@ assembled_bit N ok r d settings =
 
 -- the reticulations one after another
 module _ {N : Network} {τ : Switching} (ok : Sound N) where
+  pub turned_start : {t : Tree} → SomeHeld N t → TurnedTo N τ 0 t
+  turned_start H = record {
+    switching = H.switching;
+    held = H.held;
+    done = λ r d u. absurd (omega (arith, reticulation_node N ok r d));
+  }
+
   pub turned_end : {t : Tree} (v : ℕ) → N.size ≤ v → TurnedTo N τ v t → Held N τ t
   turned_end v u T = held_agree (λ r d. T.done r d (omega (arith, reticulation_node N ok r d))) T.held
 

@@ -83,11 +83,11 @@ module _ (F : Family) (ok : Graded F) where
   unfolding leave_in
   leave_suc k g v = refl
 
-  walk_eq : (g v : ℕ) → walk F g v ≡ line_then (walk F g) v (choice F (least F) g v)
+  pub walk_eq : (g v : ℕ) → walk F g v ≡ line_then (walk F g) v (choice F (least F) g v)
   unfolding walk
   walk_eq = climb_eq (walk_in F) line_then walk_suc same_line
 
-  leave_eq : (g v : ℕ) → leave F g v ≡ last_of (leave F g) (choice F (least F) g v)
+  pub leave_eq : (g v : ℕ) → leave F g v ≡ last_of (leave F g) (choice F (least F) g v)
   unfolding leave
   leave_eq = climb_eq (leave_in F) (λ f v. last_of f) leave_suc same_last
 

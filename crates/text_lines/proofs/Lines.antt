@@ -1,9 +1,10 @@
 -- Reading a line finds one just where the bytes are the fields of five numbers and a line feed: by induction on the fields that are left
 -- (`rest_is`), each of which is a number's columns or is malformed. Then the turns of the loops that read and write a line.
 -- Assumes nothing.
-use Rattle.std.proofs.Common.{ℕ, zero, suc, ◌+◌, ◌-◌, ◌*◌, ◌≤◌, ◌<◌, ◌≡◌, refl, sym, ap, ◌∙◌, subst, true, false, List, [], ◌∷◌, ◌++◌, append_assoc, append-nil, length, get_or, take, drop, set, length-append, length-set, take-take, drop-drop, get_or-take, get_or-drop, take-add, take_at, drop_at, drop-cons, eqb, lit<, add-zero, add-one, arith, eqb-true}
+use Rattle.std.proofs.Common.{ℕ, zero, suc, ◌+◌, ◌-◌, ◌*◌, ◌≤◌, ◌<◌, ◌≡◌, refl, sym, ap, ◌∙◌, subst, true, false, List, [], ◌∷◌, ◌++◌, append_assoc, append-nil, length, get_or, take, drop, set, length-append, length-set, take-take, drop-drop, get_or-take, get_or-drop, take-add, take_at, drop_at, drop-cons, eqb, lit<, add-zero, add-one, arith, eq-eqb, ne_eqb, eqb-true}
 use Rattle.std.proofs.lemmas.List.{take_all, take_more_set, drop-take}
 use Rattle.std.proofs.lemmas.Option.{none-some}
+use lib.ListN.{get_or-eq_default}
 use lib.Seq.{set_at, append_snoc}
 use borrow.Author.Tests.{eqb-false}
 use borrow.Rule.Slice.PartMut.{put_mid}
@@ -16,7 +17,7 @@ use Rattle.columns.specs.declared.Cursor.{Cursor}
 use Rattle.std.specs.Prelude.{Option, Some, None}
 use Rattle.columns.proofs.Columns.{length_columns}
 use Rattle.columns.proofs.Fields.{field_is, columns_spelled, spelled_columns, one_number}
-use Rattle.columns.proofs.Writing.{lent, put_written}
+use Rattle.columns.proofs.Writing.{lent, put_written, length_written}
 
 -- the bytes of fields and of a line
 length_fields : (k : ℕ) (ns : List ℕ) → length (fields_of k ns) ≡ 6 * k
@@ -166,6 +167,17 @@ one_line ms ns sm sn e = one_fields field_count ms ns sm sn
     ∙ take_at (fields_of field_count ns) (10 ∷ []) (6 * field_count) (length_fields field_count ns))
 
 -- how a line ends after its last field
+pub line_feed : (s : List ℕ) (at : ℕ) → get_or s at 0 ≡ 10 → Some (record { at = at + 1 }) ≡ (end_at s at []).end
+unfolding end_at
+line_feed s at e = rw (eq-eqb _ _ e)
+
+pub no_line_feed : (s : List ℕ) (at : ℕ) → (get_or s at 0 ≡ 10 → ⊥) → None ≡ (end_at s at []).end
+unfolding end_at malformed
+no_line_feed s at d = rw (ne_eqb _ _ d)
+
+pub past_end : (s : List ℕ) (at : ℕ) → length s ≤ at → None ≡ (end_at s at []).end
+past_end s at l = no_line_feed s at (λ q. omega (arith, get_or-eq_default s 0 {n = at} l))
+
 -- the numbers do not change how it ends
 end_after : (s : List ℕ) (at : ℕ) (ns : List ℕ) (c : Cursor) → (end_at s at []).end ≡ Some c → end_at s at ns ≡ record { line = ns; end = Some c }
 unfolding end_at malformed
@@ -221,6 +233,9 @@ write_turn d out y line at i ea h room eo e ey =
     rw e (put_written d (fields_of i line) (columns (get_or line i 0)) at (ea ∙ sym (length_fields i line))) in
     lent out y at (columns (get_or line i 0)) (omega arith) ey ∙ step ∙ rw (add-one i)
 
+pub write_room : (d out line : List ℕ) (i : ℕ) → i ≤ field_count → line_length ≤ length d → out ≡ written d (fields_of i line) → length out ≡ length d
+write_room d out line i h room e = ap length e ∙ length_written d (fields_of i line) (omega (arith, length_fields i line))
+
 pub write_done : (d out line : List ℕ) (i : ℕ) → i ≤ field_count → field_count ≤ i → line_length ≤ length d
     → out ≡ written d (fields_of i line) → set out (6 * field_count) 10 ≡ written d (line_of line)
 unfolding written line_of
@@ -230,7 +245,21 @@ write_done d out line i a b room e =
     rw (e, k, length-append, n, drop-cons d (6 * field_count) 0 (omega arith), set_at (fields_of field_count line) _ (drop line_length d) 10 (6 * field_count) n)
     (sym (append_snoc (fields_of field_count line) 10 (drop line_length d)))
 
--- every field of a line that is read is of a number below 1,000,000, and a malformed line has zeros
+-- every line that is read has its number of fields, each of a number below 1,000,000, and a malformed one has zeros
+length_rest : (k : ℕ) (s : List ℕ) (at : ℕ) (ns : List ℕ) → length ns + k ≡ field_count → length (rest_at k s at ns).line ≡ field_count
+unfolding rest_at end_at malformed
+length_rest zero s at ns e = by_bool (eqb (get_or s at 0) 10) (λ t. rw t (omega arith)) (λ t. rw t)
+length_rest (suc k) s at ns e = go (field_at s at) (λ q n. length_rest k s q (ns ++ (n ∷ [])) (rw length-append (omega arith)))
+  where
+    go : (r : Option (ℕ × Cursor)) → ((q n : ℕ) → length (rest_at k s q (ns ++ (n ∷ []))).line ≡ field_count)
+        → length (and_then r (λ n c. rest_at k s c.at (ns ++ (n ∷ [])))).line ≡ field_count
+    go (Some (n, c)) ih = ih c.at n
+    go None ih = refl
+
+pub length_read : (s : List ℕ) (at : ℕ) → length (line_at s at).line ≡ field_count
+unfolding line_at
+length_read s at = length_rest field_count s at [] refl
+
 malformed_rest : (k : ℕ) (s : List ℕ) (at : ℕ) (ns : List ℕ) → (rest_at k s at ns).end ≡ None → rest_at k s at ns ≡ malformed
 unfolding rest_at end_at
 malformed_rest zero s at ns e = by_bool (eqb (get_or s at 0) 10) (λ t. absurd (none-some _ (sym (rw t at e)))) (λ t. rw t)

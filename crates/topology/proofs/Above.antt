@@ -1,14 +1,14 @@
 -- Parents under a switching, and what is above what. The rank falls along every arc upwards and is 0 for no node alone, so the laws of climbing hold for every
 -- switching (`falls`), and `above` is the reachability along on arcs (`above_is`, `is_above`).
 -- Assumes nothing.
-use Rattle.std.proofs.Common.{◌≡◌, refl, sym, ◌∙◌, ◌≢◌, true, false, ℕ, ◌<◌, arith}
+use Rattle.std.proofs.Common.{◌≡◌, refl, sym, ◌∙◌, ◌≢◌, true, false, ◌&&◌, ℕ, ◌<◌, arith}
 use mathlib.Core.Bool.{and-true, and-false}
 use Rattle.finite.proofs.Cases.{by_bool, by_eq, by_order, clash}
 use Rattle.finite.proofs.Tests.{is_same, not_same}
 use Rattle.topology.specs.Climbing.{Falls}
 use Rattle.topology.specs.Networks.{Network, Node, Sound, Reticulation, is_reticulation}
-use Rattle.topology.specs.Switchings.{Switching, all_principal, on_secondary, parent, above, Above, here, step}
-use Rattle.topology.proofs.Climbing.{climb_ind, over_self, over_up, over_not, over_zero, over_low, over_anti}
+use Rattle.topology.specs.Switchings.{Switching, all_principal, on_secondary, parent, above, Above, here, step, lca}
+use Rattle.topology.proofs.Climbing.{climb_ind, over_self, over_up, over_not, over_zero, over_low, over_anti, meet_spec}
 
 module _ (N : Network) where
   open N use {size, principal, secondary, rank}
@@ -107,6 +107,10 @@ module _ (N : Network) (ok : Sound N) where
   pub above_anti : (σ : Switching) (v x : ℕ) → above N σ v x ≡ true → above N σ x v ≡ true → v ≡ x
   unfolding above
   above_anti σ = over_anti N.rank (parent N σ) (falls σ)
+
+  pub lca_spec : (σ : Switching) (v x y : ℕ) → v ≢ 0 → (above N σ v x && above N σ v y) ≡ above N σ v (lca N σ x y)
+  unfolding above lca
+  lca_spec σ = meet_spec N.rank (parent N σ) (falls σ)
 
   -- in the principal tree
   pub tree_not : (v x : ℕ) → v ≢ x → above N all_principal v x ≡ above N all_principal v (principal x)

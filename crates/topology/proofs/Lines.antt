@@ -1,5 +1,5 @@
--- The ranks of the network of lines are theirs, and its nodes are the numbers of the lines. Each law is a part of the definition, said where `network`
--- stays shut.
+-- The network of lines has their parents and ranks, and its nodes are the numbers of the lines. Each law is a part of the definition, said where
+-- `network` stays shut.
 -- Assumes nothing.
 use Rattle.std.proofs.Common.{◌≡◌, refl, Bool, true, ◌≢◌, ℕ, ◌≤◌, arith}
 use Rattle.finite.specs.Range.{any}
@@ -9,6 +9,18 @@ use Rattle.topology.specs.Networks.{Node}
 use Rattle.topology.specs.Lines.{NodeLines, rank_of, network}
 
 module _ (L : NodeLines) where
+  pub size_is : (network L).size ≡ L.size
+  unfolding network
+  size_is = refl
+
+  pub principal_is : (v : ℕ) → (network L).principal v ≡ L.principal v
+  unfolding network
+  principal_is v = refl
+
+  pub secondary_is : (v : ℕ) → (network L).secondary v ≡ L.secondary v
+  unfolding network
+  secondary_is v = refl
+
   pub rank_none : (network L).rank 0 ≡ 0
   unfolding network
   rank_none = rw (is_same {m = 0} refl)

@@ -26,7 +26,7 @@ module _ (lines : Lines) (genes : Genes) (ok : AcceptedIn lines genes) where
   abbrev m : ℕ
   m = lines.header.genes
 
-  limits : WithinLimits lines.header
+  pub limits : WithinLimits lines.header
   unfolding nodes_in gene_tree
   limits = ok.limits
 
