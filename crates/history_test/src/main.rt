@@ -26,7 +26,7 @@ fn score_one(rt: &impl Print, alloc: Global, sheet: &[u8]) -> io::Result<()> {
 // Scores the sheet of a name.
 fn score_named<R: Files + Print>(rt: &R, alloc: Global, name: &str) -> io::Result<()> {
     let mut sheet = [0; SHEET];
-    let Some(bytes) = test_files::read(rt, alloc, name, ".sheet", &mut sheet)? else {
+    let Some(bytes) = test_files::read(rt, name, b".sheet", &mut sheet)? else {
         return println!(rt; "{name} is missing");
     };
     println!(rt; "{name}")?;

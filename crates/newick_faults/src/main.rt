@@ -57,7 +57,7 @@ fn score_place(
 // All faults of the tree of a name.
 fn score_named<R: Files + Print>(rt: &R, alloc: Global, name: &str) -> io::Result<()> {
     let (mut sheet, mut tree) = ([0; SHEET], [0; TREE]);
-    let read = test_files::read_with_tree(rt, alloc, name, &mut sheet, &mut tree)?;
+    let read = test_files::read_with_tree(rt, name, &mut sheet, &mut tree)?;
     let Some((bytes, length)) = read else {
         return println!(rt; "{name} is missing, or its tree");
     };

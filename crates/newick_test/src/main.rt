@@ -7,7 +7,6 @@
 
 use reply::SHEET;
 use reply_newick::TREE;
-use std::alloc::Global;
 use std::rt::Files;
 use std::{env, io};
 use test_outcomes::{Outcome, UNTOUCHED};
@@ -25,9 +24,9 @@ fn score_one(rt: &impl Print, sheet: &[u8], tree: &[u8]) -> io::Result<()> {
 }
 
 // Scores the sheet and the tree of a name.
-fn score_named<R: Files + Print>(rt: &R, alloc: Global, name: &str) -> io::Result<()> {
+fn score_named<R: Files + Print>(rt: &R, name: &str) -> io::Result<()> {
     let (mut sheet, mut tree) = ([0; SHEET], [0; TREE]);
-    let read = test_files::read_with_tree(rt, alloc, name, &mut sheet, &mut tree)?;
+    let read = test_files::read_with_tree(rt, name, &mut sheet, &mut tree)?;
     let Some((bytes, length)) = read else {
         return println!(rt; "{name} is missing, or its tree");
     };
@@ -37,7 +36,7 @@ fn score_named<R: Files + Print>(rt: &R, alloc: Global, name: &str) -> io::Resul
 
 fn main(rt: HostRuntime) -> io::Result<()> {
     for name in env::args(&rt)?.skip(1) {
-        score_named(&rt, rt.alloc(), name.as_str())?;
+        score_named(&rt, name.as_str())?;
     }
     Ok(())
 }

@@ -3,18 +3,17 @@
 // all of them to the independent implementation. data/ is a copy of the folder sheets/ of the repository.
 #![tactic(auto)]
 
-use std::alloc::Global;
 use std::rt::Files;
 use std::{env, io};
 
 // Whether the reply to a sheet is the report beside it. As much of a sheet is read as the program reads, and of a report a byte more than the longest.
-fn is_as_expected<R: Files>(rt: &R, alloc: Global, name: &str) -> io::Result<bool> {
+fn is_as_expected<R: Files>(rt: &R, name: &str) -> io::Result<bool> {
     let mut sheet = [0; reply::SHEET];
-    let Some(bytes) = test_files::read(rt, alloc, name, ".sheet", &mut sheet)? else {
+    let Some(bytes) = test_files::read(rt, name, b".sheet", &mut sheet)? else {
         return Ok(false);
     };
     let mut expected = [0; score::LEAST_BYTES + 1];
-    let Some(length) = test_files::read(rt, alloc, name, ".report", &mut expected)? else {
+    let Some(length) = test_files::read(rt, name, b".report", &mut expected)? else {
         return Ok(false);
     };
     let mut out = [0; score::LEAST_BYTES];
@@ -22,8 +21,8 @@ fn is_as_expected<R: Files>(rt: &R, alloc: Global, name: &str) -> io::Result<boo
     Ok(&out[..written] == &expected[..length])
 }
 
-fn compare<R: Files + Print>(rt: &R, alloc: Global, name: &str) -> io::Result<()> {
-    if is_as_expected(rt, alloc, name)? {
+fn compare<R: Files + Print>(rt: &R, name: &str) -> io::Result<()> {
+    if is_as_expected(rt, name)? {
         println!(rt; "{name}: as expected")
     } else {
         println!(rt; "{name}: another reply, or a file is missing")
@@ -32,7 +31,7 @@ fn compare<R: Files + Print>(rt: &R, alloc: Global, name: &str) -> io::Result<()
 
 fn main(rt: HostRuntime) -> io::Result<()> {
     for name in env::args(&rt)?.skip(1) {
-        compare(&rt, rt.alloc(), name.as_str())?;
+        compare(&rt, name.as_str())?;
     }
     Ok(())
 }

@@ -6,7 +6,6 @@
 #![tactic(auto)]
 
 use reply::SHEET;
-use std::alloc::Global;
 use std::rt::Files;
 use std::{env, io};
 use test_outcomes::{Outcome, UNTOUCHED};
@@ -24,9 +23,9 @@ fn score_one(rt: &impl Print, sheet: &[u8]) -> io::Result<()> {
 }
 
 // Scores the sheet of a name.
-fn score_named<R: Files + Print>(rt: &R, alloc: Global, name: &str) -> io::Result<()> {
+fn score_named<R: Files + Print>(rt: &R, name: &str) -> io::Result<()> {
     let mut sheet = [0; SHEET];
-    let Some(bytes) = test_files::read(rt, alloc, name, ".sheet", &mut sheet)? else {
+    let Some(bytes) = test_files::read(rt, name, b".sheet", &mut sheet)? else {
         return println!(rt; "{name} is missing");
     };
     println!(rt; "{name}")?;
@@ -35,7 +34,7 @@ fn score_named<R: Files + Print>(rt: &R, alloc: Global, name: &str) -> io::Resul
 
 fn main(rt: HostRuntime) -> io::Result<()> {
     for name in env::args(&rt)?.skip(1) {
-        score_named(&rt, rt.alloc(), name.as_str())?;
+        score_named(&rt, name.as_str())?;
     }
     Ok(())
 }

@@ -27,13 +27,13 @@ use Rattle.mapping.specs.inner.Climbs.{tree_of, fork_in, Climbable}
 use Rattle.mapping.specs.inner.Evaluation.{Family, Lent, score_of, Evaluated}
 use Rattle.mapping.specs.declared.Score.{Score}
 use Rattle.search.specs.inner.Prepared.{Prepared, Working, Assembled, score_under, Reconciled}
-use Rattle.search.specs.inner.Steps.{Settling, SettledBy, Finished, Reached, Awaiting, Last}
+use Rattle.search.specs.inner.Steps.{fresh, Settling, SettledBy, Finished, Reached, Awaiting, Last}
 use Rattle.search.specs.inner.Searched.{Searched}
 use Rattle.search.specs.declared.given.Given.{Given}
 use Rattle.search.specs.declared.Stage.{Stage}
 use Rattle.search.specs.declared.Found.{Found}
 use Rattle.finite.specs.Tests.{same, tally}
-use Rattle.finite.proofs.Cases.{by_eq}
+use Rattle.finite.proofs.Cases.{by_eq, by_bool}
 use Rattle.topology.proofs.Above.{parent_cases, by_node}
 use Rattle.displayed.specs.Displayed.{Displayed, NodeOf}
 use Rattle.displayed.specs.Displays.{switched, display, base, two_arcs}
@@ -193,6 +193,26 @@ module _ (given : Given) where
           let q = S.trial_is N ok G C low P.few ch s A.reached A.inside at_most long score.cost cost_is in
           let d = S.stepped_done N ok G C low P.few ch s A.reached A.inside at_most long score.cost q A.left bests_long bests z D in
           (S.stepped N ok G C low P.few ch s A.reached A.inside at_most long score.cost q A.left bests_long bests z D, d.0, d.1)
+
+  -- the stage as a step takes it: where a setting is scored already it is the stage, and where none is nothing is cached
+  pub fresh_awaits : {ch : Choices} {s : Stage} → Awaiting N G C ch s → Awaiting N G C ch (fresh s)
+  unfolding fresh
+  fresh_awaits {ch} {s} A = record {
+    reached = record {
+      state = A.reached.state;
+      cached = by_bool (same s.setting 0) (λ t. rw t) (λ t. rw t (rw t at A.reached.cached));
+      clear = A.reached.clear;
+    };
+    inside = A.inside;
+    left = A.left;
+  }
+
+  pub taken_awaits : {ch : Choices} {z : Stage} (s : Stage) → z ≡ fresh s → Awaiting N G C ch (fresh s) → Awaiting N G C ch z
+  taken_awaits s e A = rw e A
+
+  pub taken_at : {z : Stage} (s : Stage) → z ≡ fresh s → (z.done ≡ s.done) × (z.setting ≡ s.setting)
+  unfolding fresh
+  taken_at s e = (ap (λ (x : Stage). x.done) e, ap (λ (x : Stage). x.setting) e)
 
   -- how many settings a component has, also by the number k that a stage of it has
   pub tried_is : {d k : ℕ} → d < lines.header.nodes → k ≡ d → {tried : ℕ} → tried ≡ trials_of (Q.reticulation_count given.network.parts.now (d + 1)) → tried ≡ settings N (k + 1)

@@ -8,7 +8,7 @@ ghost use Rattle.layout.specs.inner.Choices.{blank};
 ghost use Rattle.layout.specs.inner.Tree.{blank as blank_tree};
 ghost use Rattle.layout.specs.inner.Results.{blank as blank_results};
 ghost use Rattle.optimum.specs.Optimum.{trials_of};
-ghost use Rattle.search.specs.inner.Steps.{takes, Settling, SettledBy, Finished};
+ghost use Rattle.search.specs.inner.Steps.{takes, fresh, Settling, SettledBy, Finished};
 ghost use Rattle.search.specs.inner.Works.{WorkingIn, AssembledIn, AwaitingIn, ReachedIn, LastIn, SearchedIn};
 
 pub mod given;
@@ -65,6 +65,18 @@ fn takes(least: Option<u32>, cost: u32) -> bool
     least.is_none_or(|so_far| cost < so_far)
 }
 
+// The stage of a step: before a component's first setting there is no least cost so far, whatever the stage says.
+#[tactic(auto, unfolding(crate::specs::inner::Steps::fresh, finite::specs::Tests::same))]
+fn fresh(s: Stage) -> Stage
+    ensures { result ≡ fresh s }
+{
+    if s.setting == 0 {
+        Stage { least: None, ..s }
+    } else {
+        s
+    }
+}
+
 // The next setting was found to cost this.
 fn settle(best: &mut Column, s: Stage, cost: u32) -> Stage
     requires { Settling s }
@@ -109,14 +121,16 @@ impl Given<'_> {
         seated.evaluate(results)
     }
 
-    // "One step scores the next setting of a single component .. and raises the count by one".
+    // "One step scores the next setting of a single component .. and raises the count by one". (What a stage has for the least cost is asked of it only once
+    // a setting of the component is scored.)
     #[tactic(auto, using(crate::proofs::Turns::step_fits))]
     pub fn step(&self, work: &mut Work, s: Stage) -> Stage
         requires working { WorkingIn self.now work.old.tree work.old.results }
-        requires awaiting { AwaitingIn self.now work.old s }
+        requires awaiting { AwaitingIn self.now work.old (fresh s) }
         ensures reached { ReachedIn self.now work.new result × (result.done ≡ s.done) × (result.setting ≡ s.setting + 1) }
         ensures working { WorkingIn self.now work.new.tree work.new.results }
     {
+        let s = fresh(s);
         work.choices.setting[s.done + 1] = s.setting;
         let score = self.evaluated(&work.choices.setting, &mut work.tree, &mut work.results);
         settle(&mut work.choices.best, s, score.cost)
@@ -151,6 +165,8 @@ impl Given<'_> {
     }
 
     // The search: steps until no setting is left, then the switching of the last state's bests, its tree in one table and its genes in another.
+    // (Inlined, so that the tables that it copies are known to be apart: called, it asks the C library for `memmove`, which no caller in C was asked for.)
+    #[inline(always)]
     pub fn run(&self, work: &mut Work) -> Found
         requires { (work.old.choices ≡ blank) × (work.old.tree ≡ blank_tree) × (work.old.results ≡ blank_results) }
         ensures { SearchedIn self.now work.new result }

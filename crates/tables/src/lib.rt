@@ -104,7 +104,7 @@ pub fn one_if(a: u32, b: u32) -> u32
 // `filter` and `count` over the same entries a sheet of 63 nodes and one gene takes 7 % longer.)
 pub fn count_of(n: usize, parents: &Column, x: usize) -> u32
     requires { n ≤ 127 }
-    ensures { result ≡ children n (at parents.now) x }
+    ensures { (result ≡ children n (at parents.now) x) × (result ≤ n) }
 {
     // No entry is so large.
     let Ok(x) = u32::try_from(x) else {

@@ -3,25 +3,37 @@
 
 ghost use Rattle.std.specs.Prelude.{◌≡◌, ◌≤◌, length, IfOk, IfSome};
 
-use std::alloc::Global;
 use std::fs::File;
-use std::io;
 use std::rt::Files;
+use std::{io, str};
 
-// Reads the front of the file that the name and the ending name, as much as what is lent holds: how many bytes that is, or nothing where there is no such
-// file that can be opened.
+// A file's name is at most so long, with its ending: it is put together without allocating.
+const PATH: usize = 64;
+
+// Opens the file that the name and the ending name, if it can be opened.
+fn open<R: Files>(rt: &R, name: &str, ending: &[u8]) -> Option<R::File> {
+    let length = name.len().checked_add(ending.len())?;
+    if length > PATH {
+        return None;
+    }
+    let mut path = [0u8; PATH];
+    path[..name.len()].copy_from_slice(name.as_bytes());
+    path[name.len()..length].copy_from_slice(ending);
+    let path = str::from_utf8(&path[..length]).ok()?;
+    File::open(rt, path).ok()
+}
+
+// Reads the front of that file, as much as what is lent holds: how many bytes that is, or nothing where there is no such file that can be opened.
 pub fn read<R: Files>(
     rt: &R,
-    alloc: Global,
     name: &str,
-    ending: &str,
+    ending: &[u8],
     into: &mut [u8],
 ) -> io::Result<Option<usize>>
     ensures fits { IfOk result (λ got. IfSome got (λ bytes. bytes ≤ length into.old)) }
     ensures kept { length into.new ≡ length into.old }
 {
-    let path = format!(in alloc; "{name}{ending}")?;
-    let Ok(file) = File::open(rt, path.as_str()) else {
+    let Some(file) = open(rt, name, ending) else {
         return Ok(None);
     };
     Ok(Some(input::read_full(file, into)?))
@@ -30,7 +42,6 @@ pub fn read<R: Files>(
 // The same of a sheet and the tree beside it: how many bytes each is, or nothing where one of them is not there.
 pub fn read_with_tree<R: Files>(
     rt: &R,
-    alloc: Global,
     name: &str,
     sheet: &mut [u8],
     tree: &mut [u8],
@@ -38,10 +49,10 @@ pub fn read_with_tree<R: Files>(
     ensures fits { IfOk result (λ got. IfSome got (λ bytes. (bytes.0 ≤ length sheet.old) × (bytes.1 ≤ length tree.old))) }
     ensures kept { (length sheet.new ≡ length sheet.old) × (length tree.new ≡ length tree.old) }
 {
-    let Some(sheet_bytes) = read(rt, alloc, name, ".sheet", sheet)? else {
+    let Some(sheet_bytes) = read(rt, name, b".sheet", sheet)? else {
         return Ok(None);
     };
-    let Some(tree_bytes) = read(rt, alloc, name, ".tree", tree)? else {
+    let Some(tree_bytes) = read(rt, name, b".tree", tree)? else {
         return Ok(None);
     };
     Ok(Some((sheet_bytes, tree_bytes)))

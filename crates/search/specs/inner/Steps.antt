@@ -18,6 +18,10 @@ unfoldable pub takes : (least : Option ℕ) (cost : ℕ) → Bool
 takes None _ = true
 takes (Some so_far) cost = under cost so_far
 
+-- the stage of a step: of a component's first setting nothing is cached, whatever the stage has there
+unfoldable pub fresh : Stage → Stage
+fresh s = record { done = s.done; setting = s.setting; least = cond (same s.setting 0) None s.least; count = s.count }
+
 -- numbers that a step can raise
 pub record Settling (s : Stage) : Type 0 where
   pub done : s.done < 127

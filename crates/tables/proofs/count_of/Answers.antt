@@ -1,5 +1,5 @@
 -- The goals of `count_of` that are left: see Invariants.antt for the idea.
-use Rattle.std.proofs.Common.{◌≡◌, sym, rules, arith}
+use Rattle.std.proofs.Common.{◌≡◌, ◌≤◌, sym, rules, arith}
 use Rattle.finite.specs.Range.{children}
 use Rattle.finite.proofs.Tests.{not_same}
 use Rattle.finite.proofs.Count.{count_zero, children_start, children_turn, children_done}
@@ -21,8 +21,9 @@ loop-p-preserved c = let e = entries_many c.args.n c.args.parents.now c.requires
 pub returns : goal.returns
 returns c = let same_x : c.in-Ok.x ≡ c.args.x = search rules in
     let e = entries_many c.args.n c.args.parents.now c.requires c.told-parents in
-    rw (← same_x) (children_done _ _ c.args.n c.loop-p.p-index _ (omega (arith, e, c.loop-p.auto.p-index-end)) (omega (arith, e, c.loop-p-test.false)) c.loop-p.invariant.1)
+    let within : c.loop-p.p-index ≤ c.args.n = omega (arith, e, c.loop-p.auto.p-index-end) in
+    (rw (← same_x) (children_done _ _ c.args.n c.loop-p.p-index _ within (omega (arith, e, c.loop-p-test.false)) c.loop-p.invariant.1), omega (arith, within, c.loop-p.invariant.0))
 
 pub returns-in_default : goal.returns-in_default
 unfolding children
-returns-in_default c = sym (count_zero _ _ (λ v low high. not_same (λ e. let small = c.fits-parents v in c.in_default.ensures (omega (arith, small, e)))))
+returns-in_default c = (sym (count_zero _ _ (λ v low high. not_same (λ e. let small = c.fits-parents v in c.in_default.ensures (omega (arith, small, e))))), omega arith)
