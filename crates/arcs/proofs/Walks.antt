@@ -105,6 +105,10 @@ module _ {N : Network} {v : ℕ} {w : Walk} (W : Walked N w) (D : Due N v w) (ne
       stay = λ u d. rw (place_old u d) d;
     }
 
+-- nothing is done for a number that is no node, and for a node that stands
+pub stands_already : {N : Network} {v : ℕ} {w : Walk} → Walked N w → (v ≢ 0 → place w v ≢ 0) → Visited N v w w
+stands_already W s = record { walked = W; stands = s; stay = λ u d. d }
+
 -- a visit after others: what they placed stays
 pub visited_then : {N : Network} {p v : ℕ} {w w₁ w₂ : Walk} → Visited N p w w₁ → Visited N v w₁ w₂ → Visited N v w w₂
 visited_then A B = record { walked = B.walked; stands = B.stands; stay = λ u d. B.stay u (A.stay u d) }

@@ -29,7 +29,7 @@ use Rattle.layout.specs.inner.Parts as Parts
 use Rattle.layout.proofs.Numbered.{secondary_in, stamp_in}
 use Rattle.components.specs.Refusals.{crowded_at, refusal11}
 use Rattle.components.specs.inner.Ways.{Ranked}
-use Rattle.components.specs.inner.Filling.{rank_at, PartedTo}
+use Rattle.components.specs.inner.Filling.{blank, rank_at, PartedTo}
 
 -- those of 1..n that pass and are not above v
 count_whole : (v : ℕ) (f : ℕ → Bool) → count v (λ q. f q && under q (v + 1)) ≡ count v f
@@ -187,14 +187,15 @@ module _ (network : SoundNetwork) where
       (λ e. rw e (filled_zero lines.header.nodes zeros (rank_at lines.nodes) ∙ zeros_at 0 ∙ sym (rank_none (nodes_of lines))))
       (λ d. filled_in lines.header.nodes zeros (rank_at lines.nodes) v (omega arith) u (omega (arith, zeros_long, lines.within.few_nodes)) ∙ rank_is v (omega arith) u)
 
-  pub ranked : (r : List ℕ) → r ≡ filled lines.header.nodes zeros (rank_at lines.nodes) → Ranked N r
+  -- over a table that was lent blank
+  pub ranked : (t : Table) → t ≡ blank → (r : List ℕ) → r ≡ filled lines.header.nodes t.rank (rank_at lines.nodes) → Ranked N r
   unfolding of_lines nodes_in
-  ranked r e = rw e (record { ranks = ranks_in })
+  ranked t b r e = rw (e, b) (record { ranks = ranks_in })
 
-  pub parted_start : (r s : List ℕ) → r ≡ filled lines.header.nodes zeros (rank_at lines.nodes) → s ≡ filled lines.header.nodes zeros (component N)
-      → PartedTo N 0 (record { rank = r; top = s; reticulation_count = zeros; index = zeros })
+  pub parted_start : (t : Table) → t ≡ blank → (r s : List ℕ) → r ≡ filled lines.header.nodes t.rank (rank_at lines.nodes) → s ≡ filled lines.header.nodes t.top (component N)
+      → PartedTo N 0 (record { rank = r; top = s; reticulation_count = t.reticulation_count; index = t.index })
   unfolding of_lines nodes_in
-  parted_start r s er es = rw (er, es) (record {
+  parted_start t b r s er es = rw (er, es, b) (record {
     ranks = ranks_in;
     tops = λ v k. filled_in lines.header.nodes zeros (component N) v k.low k.high (omega (arith, zeros_long, lines.within.few_nodes));
     counts = λ c k. zeros_at c ∙ count_start (member_of N c);

@@ -11,7 +11,7 @@ ghost use Rattle.layout.specs.Lines.{nodes_of, network_of};
 ghost use Rattle.layout.specs.inner.Parts.{Parted};
 ghost use Rattle.components.specs.Refusals.{refusal11, component_refusals};
 ghost use Rattle.refusals.specs.Numbers.{refused};
-ghost use Rattle.components.specs.inner.Filling.{Dated, rank_at, PartedTo};
+ghost use Rattle.components.specs.inner.Filling.{Dated, blank, rank_at, PartedTo};
 
 use climbs::Climbs;
 use layout::lines::{Lines, NodeColumns};
@@ -19,6 +19,14 @@ use layout::networks::SoundNetwork;
 use layout::parts::Parts;
 use refusals::Refusal;
 use tables::ZEROS;
+
+// A table of parts before it is filled.
+pub const UNFILLED: Parts = Parts {
+    rank: ZEROS,
+    top: ZEROS,
+    reticulation_count: ZEROS,
+    index: ZEROS,
+};
 
 // The rank of node v.
 #[tactic(auto, unfolding(crate::specs::inner::Filling::rank_at, topology::specs::Lines::rank_of, finite::specs::Tests::same))]
@@ -54,18 +62,13 @@ fn counts(network: SoundNetwork, parts: &mut Parts)
     }
 }
 
-// The parts of a network in which 6, 7 and 8 have passed. (Inlined, as `sheet::read_lines`.)
+// The parts of a network in which 6, 7 and 8 have passed, into a table that is lent blank. (Lent, for a table that a call returns is copied, inlined or not.)
 #[inline(always)]
-pub fn part(network: SoundNetwork) -> Parts
-    requires { Dated network.lines.now.header.nodes network.lines.now.nodes }
-    ensures { Parted (network_of network.entry.lines.now) result }
+pub fn part_into(network: SoundNetwork, parts: &mut Parts)
+    requires dated { Dated network.lines.now.header.nodes network.lines.now.nodes }
+    requires blank { parts.old ≡ blank }
+    ensures { Parted (network_of network.entry.lines.now) parts.new }
 {
-    let mut parts = Parts {
-        rank: ZEROS,
-        top: ZEROS,
-        reticulation_count: ZEROS,
-        index: ZEROS,
-    };
     tables::fill(
         network.lines.header.nodes,
         |v| rank_of(&network.lines.nodes, v),
@@ -76,7 +79,18 @@ pub fn part(network: SoundNetwork) -> Parts
         ranks: &parts.rank,
     };
     climbs.tops(&mut parts.top);
-    counts(network, &mut parts);
+    counts(network, parts);
+}
+
+// The same, returned.
+#[tactic(auto, unfolding(finite::specs::Tables::zeros))]
+#[inline(always)]
+pub fn part(network: SoundNetwork) -> Parts
+    requires { Dated network.lines.now.header.nodes network.lines.now.nodes }
+    ensures { Parted (network_of network.entry.lines.now) result }
+{
+    let mut parts = UNFILLED;
+    part_into(network, &mut parts);
     parts
 }
 

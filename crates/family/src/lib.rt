@@ -76,12 +76,14 @@ pub fn write_from(
 }
 
 // The same, when nothing else asks for the genes and the arcs.
+#[tactic(auto, unfolding(finite::specs::Tables::zeros))]
 #[inline(always)]
 pub fn write(network: PartedNetwork, res: &mut [u8], scratch: &mut [u32]) -> usize
     requires { Sized network.lines.now.header (length res.old) (length scratch.old) × Passed (contents_by network.lines.now) }
     ensures { Written (contents_by network.entry.lines.now) res.old res.new scratch.old scratch.new result }
 {
-    let genes = gene_tree::build(network.lines);
+    let mut genes = gene_tree::UNFILLED;
+    gene_tree::build_into(network.lines, &mut genes);
     let source = whole_network::source_of(network.lines, &genes);
     write_from(network, &source, res, scratch)
 }

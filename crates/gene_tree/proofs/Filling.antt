@@ -13,12 +13,13 @@ use Rattle.tables.proofs.Nexts.{next_same}
 use Rattle.topology.specs.Lines.{NodeLines, GeneLines}
 use Rattle.layout.specs.declared.lines.NodeColumns.{NodeColumns}
 use Rattle.layout.specs.declared.lines.GeneColumns.{GeneColumns}
+use Rattle.layout.specs.declared.genes.Genes.{Genes}
 use Rattle.layout.specs.Lines.{nodes_in, genes_in}
 use Rattle.layout.specs.inner.Genes.{gene_tree}
 use Rattle.layout.proofs.Numbered.{species_in, gene_parent_in}
 use Rattle.gene_tree.specs.Refusals.{child_count, bearer}
 use Rattle.gene_tree.specs.Genes.{left_of, right_of, leaf_of, gene_tree_of}
-use Rattle.gene_tree.specs.inner.Work.{ChildCounts, Bearers}
+use Rattle.gene_tree.specs.inner.Work.{ChildCounts, Bearers, blank}
 use Rattle.gene_tree.proofs.Refusals.{bearer_zero}
 use Rattle.gene_tree.proofs.Reading.{count_is}
 
@@ -40,10 +41,10 @@ counts_noted m l c few e = record {
       ∙ sym (rw (count_is m l) (children_same m (genes_in m l).parent (at l.parent) g (gene_parent_in m l))));
 }
 
--- the columns of the gene tree: the second pass finds each gene's child after the one that the first found
-module _ (m : ℕ) (L : NodeLines) (l : GeneColumns) (left right leaf parent : List ℕ) (few : m ≤ 127)
+-- the columns of the gene tree over a table lent blank: the second pass finds each gene's child after the one that the first found
+module _ (m : ℕ) (L : NodeLines) (l : GeneColumns) (left right leaf parent : List ℕ) (few : m ≤ 127) (t : Genes) (b : t ≡ blank)
     (e1 : left ≡ filled m zeros (λ v. next m (at l.parent) (at zeros v) v)) (e2 : right ≡ filled m zeros (λ v. next m (at l.parent) (at left v) v))
-    (e3 : leaf ≡ filled m zeros (leaf_of L (genes_in m l))) (e4 : parent ≡ filled m zeros (genes_in m l).parent) where
+    (e3 : leaf ≡ filled m t.leaf (leaf_of L (genes_in m l))) (e4 : parent ≡ filled m t.parent (genes_in m l).parent) where
   abbrev K : GeneLines
   K = genes_in m l
 
@@ -64,10 +65,10 @@ module _ (m : ℕ) (L : NodeLines) (l : GeneColumns) (left right leaf parent : L
       rw q (next_is (left_of K v) v))
 
   leaf_held : at leaf ≡ within m (leaf_of L K)
-  leaf_held = held leaf _ (leaf_of L K) e3 (λ v _ _. refl)
+  leaf_held = held leaf _ (leaf_of L K) (rw b at e3) (λ v _ _. refl)
 
   parent_held : at parent ≡ within m K.parent
-  parent_held = held parent _ K.parent e4 (λ v _ _. refl)
+  parent_held = held parent _ K.parent (rw b at e4) (λ v _ _. refl)
 
   pub tree_is : gene_tree m (record { left = left; right = right; leaf = leaf; parent = parent }) ≡ gene_tree_of L K
   unfolding gene_tree gene_tree_of genes_in

@@ -1,12 +1,13 @@
 // Refusals 12 and 13, by the gene lines.
 ghost use Rattle.std.specs.Prelude.{◌≡◌, ◌||◌};
+ghost use Rattle.finite.specs.Tables.{zeros};
 ghost use Rattle.layout.specs.Lines.{nodes_of, genes_of};
 ghost use Rattle.gene_tree.specs.Refusals.{bad_parent, bad_count, refusal12, refusal13};
 ghost use Rattle.gene_tree.specs.inner.Work.{ChildCounts};
 
 use super::species::Species;
 use layout::lines::Lines;
-use tables::{Column, ZEROS, child_counts};
+use tables::{Column, child_counts};
 
 // 12: of gene g with the parent p.
 #[tactic(auto, unfolding(crate::specs::Refusals::bad_parent, finite::specs::Tests::same, finite::specs::Tests::under))]
@@ -31,27 +32,24 @@ fn bad_gene(g: usize, p: usize, k: u32) -> bool
     bad_parent(g, p) || bad_count(k)
 }
 
-// The genes by their lines, with the number of each gene's children, and the species of the network.
-#[derive(Clone, Copy)]
-pub struct GeneLines<'a> {
-    species: Species<'a>,
-    child_counts: Column,
-    ghost counted: { ChildCounts (genes_of species.lines.now) child_counts },
+// How many children each gene has, into a column that is lent as zeros.
+#[tactic(auto, using(crate::proofs::Filling::counts_noted), unfolding(finite::specs::Tables::zeros))]
+pub fn note_counts(lines: &Lines, counts: &mut Column)
+    requires { counts.old ≡ zeros }
+    ensures { ChildCounts (genes_of lines.now) counts.new }
+{
+    child_counts(lines.header.genes, &lines.genes.parent, counts);
 }
 
-impl<'a> GeneLines<'a> {
-    #[tactic(auto, using(crate::proofs::Filling::counts_noted), unfolding(finite::specs::Tables::zeros))]
-    pub fn counted(lines: &'a Lines) -> GeneLines<'a>
-        ensures { result.species.lines.now ≡ lines.now }
-    {
-        let mut counts = ZEROS;
-        child_counts(lines.header.genes, &lines.genes.parent, &mut counts);
-        GeneLines {
-            species: Species::noted(lines),
-            child_counts: counts,
-        }
-    }
+// The genes by their lines, with the number of each gene's children, and the species of the network.
+#[derive(Clone, Copy)]
+pub struct GeneLines<'species, 'counts> {
+    pub species: Species<'species>,
+    pub child_counts: &'counts Column,
+    ghost counted: { ChildCounts (genes_of species.lines.now) child_counts.now },
+}
 
+impl GeneLines<'_, '_> {
     // 12: whether the genes do not form a tree.
     pub fn twelve(&self) -> bool
         ensures { result ≡ refusal12 (genes_of self.now.species.lines.now) }

@@ -11,20 +11,40 @@ ghost use Rattle.layout.specs.Lines.{nodes_of, genes_of};
 ghost use Rattle.layout.specs.inner.Genes.{gene_tree};
 ghost use Rattle.gene_tree.specs.Refusals.{gene_refusals};
 ghost use Rattle.gene_tree.specs.Genes.{gene_tree_of};
+ghost use Rattle.gene_tree.specs.inner.Work.{blank};
 
-use gene_lines::GeneLines;
+use gene_lines::{GeneLines, note_counts};
 use layout::genes::Genes;
 use layout::lines::Lines;
 use refusals::Refusal;
-use species::Species;
+use species::{Species, note_bearers};
 use tables::{ZEROS, fill, next_children};
 
+// A table of genes before it is filled.
+pub const UNFILLED: Genes = Genes {
+    left: ZEROS,
+    right: ZEROS,
+    leaf: ZEROS,
+    parent: ZEROS,
+};
+
 // The first of the gene lines' refusals that applies.
-#[tactic(auto, using(finite::proofs::Refusals::verdict_laws), unfolding(crate::specs::Refusals::gene_refusals, crate::specs::Refusals::species_refusals))]
+#[tactic(auto, using(finite::proofs::Refusals::verdict_laws), unfolding(crate::specs::Refusals::gene_refusals, crate::specs::Refusals::species_refusals, finite::specs::Tables::zeros))]
 pub fn verdict(lines: &Lines) -> Result<(), Refusal>
     ensures { refused result ≡ verdict (gene_refusals (nodes_of lines.now) (genes_of lines.now)) }
 {
-    let genes = GeneLines::counted(lines);
+    let mut lowest = ZEROS;
+    note_bearers(lines, &mut lowest);
+    let species = Species {
+        lines,
+        lowest: &lowest,
+    };
+    let mut counts = ZEROS;
+    note_counts(lines, &mut counts);
+    let genes = GeneLines {
+        species,
+        child_counts: &counts,
+    };
     if genes.twelve() {
         return Err(Refusal::BadGeneTree);
     }
@@ -34,19 +54,20 @@ pub fn verdict(lines: &Lines) -> Result<(), Refusal>
     Ok(())
 }
 
-// The gene tree of the lines; a leaf gene sits at the node that bears its species. (Inlined, as `sheet::read_lines`.)
+// The gene tree of the lines, into a table that is lent blank; a leaf gene sits at the node that bears its species. (Lent, as the parts of a network are to
+// `components::part_into`.)
 #[tactic(auto, unfolding(finite::specs::Tables::zeros))]
 #[inline(always)]
-pub fn build(lines: &Lines) -> Genes
-    ensures { gene_tree lines.now.header.genes result ≡ gene_tree_of (nodes_of lines.now) (genes_of lines.now) }
+pub fn build_into(lines: &Lines, genes: &mut Genes)
+    requires { genes.old ≡ blank }
+    ensures { gene_tree lines.now.header.genes genes.new ≡ gene_tree_of (nodes_of lines.now) (genes_of lines.now) }
 {
     let m = lines.header.genes;
-    let species = Species::noted(lines);
-    let mut genes = Genes {
-        left: ZEROS,
-        right: ZEROS,
-        leaf: ZEROS,
-        parent: ZEROS,
+    let mut lowest = ZEROS;
+    note_bearers(lines, &mut lowest);
+    let species = Species {
+        lines,
+        lowest: &lowest,
     };
     next_children(m, &lines.genes.parent, &ZEROS, &mut genes.left);
     next_children(m, &lines.genes.parent, &genes.left, &mut genes.right);
@@ -56,5 +77,15 @@ pub fn build(lines: &Lines) -> Genes
         &mut genes.leaf,
     );
     fill(m, |g| lines.genes.parent[g], &mut genes.parent);
+}
+
+// The same, returned.
+#[tactic(auto, unfolding(finite::specs::Tables::zeros))]
+#[inline(always)]
+pub fn build(lines: &Lines) -> Genes
+    ensures { gene_tree lines.now.header.genes result ≡ gene_tree_of (nodes_of lines.now) (genes_of lines.now) }
+{
+    let mut genes = UNFILLED;
+    build_into(lines, &mut genes);
     genes
 }

@@ -1,5 +1,6 @@
 // The species of a network: which node bears each.
 ghost use Rattle.std.specs.Prelude.{◌≡◌, ◌≤◌};
+ghost use Rattle.finite.specs.Tables.{zeros};
 ghost use Rattle.tables.specs.Children.{next};
 ghost use Rattle.layout.specs.Lines.{nodes_of};
 ghost use Rattle.gene_tree.specs.Refusals.{bearer, bad_species};
@@ -18,29 +19,24 @@ fn sought(lines: &Lines, s: usize) -> usize
         .unwrap_or(0)
 }
 
-// The nodes by their lines, with the lowest node of each number up to n as a species.
+// The lowest node of each number up to n as a species, into a column that is lent as zeros.
+#[tactic(auto, using(crate::proofs::Filling::bearers_noted), unfolding(finite::specs::Tables::zeros))]
+pub fn note_bearers(lines: &Lines, lowest: &mut Column)
+    requires { lowest.old ≡ zeros }
+    ensures { Bearers (nodes_of lines.now) lowest.new }
+{
+    next_children(lines.header.nodes, &lines.nodes.species, &ZEROS, lowest);
+}
+
+// The nodes by their lines, with the lowest node of each number up to n as a species. (The column is lent: one that it held would be copied with it.)
 #[derive(Clone, Copy)]
 pub struct Species<'a> {
     pub lines: &'a Lines,
-    lowest: Column,
-    ghost noted: { Bearers (nodes_of lines.now) lowest },
+    pub lowest: &'a Column,
+    ghost noted: { Bearers (nodes_of lines.now) lowest.now },
 }
 
-impl<'a> Species<'a> {
-    #[tactic(auto, using(crate::proofs::Filling::bearers_noted), unfolding(finite::specs::Tables::zeros))]
-    pub fn noted(lines: &'a Lines) -> Species<'a>
-        ensures { result.lines.now ≡ lines.now }
-    {
-        let mut lowest = ZEROS;
-        next_children(
-            lines.header.nodes,
-            &lines.nodes.species,
-            &ZEROS,
-            &mut lowest,
-        );
-        Species { lines, lowest }
-    }
-
+impl Species<'_> {
     // The node that bears species s, 0 where none does. No species is borne by no node, though other nodes than leaves have 0 there. Species are most
     // often numbered from 1, so the bearers of the numbers up to n are looked up, and only others are sought. (As `bearers` of crate `shapes` looks up a
     // count; a count and a node have not one table.)

@@ -8,7 +8,7 @@ use Rattle.finite.proofs.Sum.{sum_suc, sum_more, sum_range_le, sum_zero_range}
 use Rattle.columns.specs.Writing.{put, written}
 use Rattle.text_lines.specs.Lines.{line_length, line_of, Small}
 use Rattle.text_lines.proofs.Lines.{length_line, small_of_five}
-use Rattle.columns.proofs.Writing.{put_put, put_written, put_nil, put_front}
+use Rattle.columns.proofs.Writing.{put_put, put_written, put_nil, put_front, length_put}
 use Rattle.topology.specs.Networks.{is_reticulation}
 use Rattle.topology.specs.Lines.{network}
 use Rattle.layout.specs.inner.Parts.{top}
@@ -85,11 +85,16 @@ module _ (test : ℕ → Bool) (fields : ℕ → List ℕ) where
   pub lines_done : (d e : List ℕ) (start r k n : ℕ) → k ≤ n → n ≤ k → Extended d e start r test fields k → Extended d e start r test fields n
   lines_done d e start r k n a b l = let q : k ≡ n = omega arith in rw q at l
 
-  -- there is room for the next line
+  -- there is room for the next line, and writing keeps the length
   pub lines_room : (d e : List ℕ) (start next k n : ℕ) → k < n → start + line_length * count n test ≤ length d → Extended d e start next test fields k
       → next + line_length * tally (test (k + 1)) ≤ length d
   unfolding count
   lines_room d e start next k n h room l = omega (arith, l.after, sum_more k (λ v. tally (test v)), sum_range_le n (k + 1) (λ v. tally (test v)) (omega arith))
+
+  pub lines_length : (d e : List ℕ) (start next k n : ℕ) → k ≤ n → start + line_length * count n test ≤ length d → Extended d e start next test fields k → length e ≡ length d
+  unfolding count
+  lines_length d e start next k n h room l = ap length l.bytes ∙ length_put d start (lines_where test fields k)
+      (omega (arith, length_lines test fields k, sum_range_le n k (λ v. tally (test v)) h))
 
 -- what is told of a number in turn
 module _ (t : Telling) {d e : List ℕ} {start next v n : ℕ} {line : Option (List ℕ)} (low : 1 ≤ v) (high : v ≤ n)

@@ -1,7 +1,7 @@
 -- The outcome of each way out of a call on a sheet. A refusal leaves both buffers as they were; the tests before it failed, so it is the first that applies;
 -- and a sheet that none applies to has its piece written.
 -- Assumes nothing.
-use Rattle.std.proofs.Common.{◌≡◌, ℕ, ◌+◌, ◌≤◌, List, length, true, false, not, sym, ap, ◌∙◌, subst, arith, Result, Ok, Err, IsErrAnd}
+use Rattle.std.proofs.Common.{◌≡◌, ℕ, ◌+◌, ◌≤◌, List, length, true, false, not, refl, sym, ap, ◌∙◌, subst, arith, Result, Ok, Err, IsErrAnd}
 use Rattle.finite.specs.Tables.{at, zeros, filled, within}
 use Rattle.finite.specs.Refusals.{verdict}
 use Rattle.finite.proofs.Tables.{within_same, filled_in, zeros_long}
@@ -10,7 +10,7 @@ use Rattle.std.proofs.lemmas.Bool.{not-false}
 use Rattle.topology.specs.Lines.{network}
 use Rattle.topology.specs.Networks.{Sound}
 use Rattle.layout.specs.Lines.{nodes_in, genes_in, nodes_of, genes_of}
-use Rattle.layout.specs.Headers.{WithinLimits}
+use Rattle.layout.specs.Headers.{WithinLimits, FewLines}
 use Rattle.layout.specs.declared.Header.{Header}
 use Rattle.layout.specs.declared.lines.NodeColumns.{NodeColumns}
 use Rattle.layout.specs.declared.lines.Lines.{Lines}
@@ -20,7 +20,7 @@ use Rattle.network.proofs.Acceptance as Acceptance
 use Rattle.components.specs.Refusals.{component_refusals}
 use Rattle.components.specs.inner.Filling.{Dated}
 use Rattle.gene_tree.specs.Refusals.{gene_refusals}
-use Rattle.sheet.specs.Sheets.{header_in, nodes, genes, line_no, limits, refusal3, refusal4, refusal5, header_of, cell, formed, node_columns, gene_columns, LinesRead}
+use Rattle.sheet.specs.Sheets.{header_in, nodes, genes, line_no, limits, refusal3, refusal4, refusal5, header_of, cell, whole, formed, node_columns, gene_columns, ReadInto, LinesRead}
 use Rattle.refusals.specs.declared.Refusal.{Refusal}
 use Rattle.refusals.specs.declared.Refusal.TheVariants.{NoHeader, BeyondLimits}
 use Rattle.refusals.specs.Numbers.{number, refused}
@@ -34,7 +34,7 @@ use Rattle.score.specs.Contents.{node_lines, gene_lines, contents_of}
 use Rattle.score.specs.Refusals.{first_refusals, curator_refusals}
 use Rattle.answer.specs.Outcome.{OutcomeWriting}
 use Rattle.answer.proofs.Answers.{refuses, reports}
-use Rattle.score.specs.inner.Stages.{LinesOf, ReadBy, Ready, OutcomeBy, OutcomeOf}
+use Rattle.score.specs.inner.Stages.{HeaderRead, HeaderBy, LinesOf, ReadBy, Ready, OutcomeBy, OutcomeOf}
 use Rattle.score.proofs.Refusals.{network_refuses, component_refuses, genes_refuse, early, later, refusal_3, refusal_4, refusal_5, refusal_none, buffers_pass}
 
 -- reading refuses, or comes to lines
@@ -99,6 +99,10 @@ module _ (s : List ℕ) (h : Header) (k : HeaderIs s h) where
   well : formed s h.nodes h.genes ≡ true → refusal5 s ≡ false
   unfolding refusal5
   well e = let f : formed s (nodes s) (genes s) ≡ true = rw k.header at e in rw f
+
+  -- another length than the header tells is refused
+  pub length_refused : whole s h.nodes h.genes ≡ false → (least b w : ℕ) → least ≤ b → least_words ≤ w → verdict (first_refusals least s b w) ≡ 5
+  length_refused e least b w lb lw = let f : formed s h.nodes h.genes ≡ false = rw e refl in refusal_5 least s b w lw lb k.three k.four (amiss f)
 
   -- the columns that are read hold the sheet's lines
   node_field : (j : ℕ) → within (nodes s) (at (filled (nodes s) zeros (λ v. cell s v j))) ≡ within (nodes s) (λ v. cell s v j)
@@ -191,3 +195,38 @@ module _ (least : ℕ) (piece : Contents → List ℕ) (s d u : List ℕ) {a : R
     pub lines_scored : (e t : List ℕ) (x : Result ℕ Refusal) → OutcomeBy piece lines d e u t x → OutcomeOf least piece s d e u t x
     lines_scored e t x o = rw (later least s (length d) (length u) first_none)
         (subst (λ (X : Contents). OutcomeWriting (verdict (curator_refusals X)) X (piece X) d e u t x) (S.lines lines q).contents o)
+
+-- an accepted header has few lines
+pub few_lines : (least : ℕ) (s : List ℕ) (h : Header) (b w : ℕ) → HeaderRead least s h b w → FewLines h
+few_lines least s h b w H = let l = (header_is s h H.header).limited in record { few_nodes = l.few_nodes; few_genes = l.few_genes }
+
+-- what the answer of the header says, by cases
+module _ (least : ℕ) (s : List ℕ) (b w : ℕ) {a : Result Header Refusal} (H : HeaderBy least s b w a) where
+  pub not_headed_by : (r : Refusal) → a ≡ Err r → number r ≡ verdict (first_refusals least s b w)
+  not_headed_by r q = subst (HeaderBy least s b w) q H
+
+  pub headed_by : (h : Header) → a ≡ Ok h → HeaderRead least s h b w
+  headed_by h q = subst (HeaderBy least s b w) q H
+
+-- a call on a sheet s whose header is refused, and one whose header is accepted, with lines that are read into: reading comes to a
+module _ (least : ℕ) (piece : Contents → List ℕ) (s d u : List ℕ) where
+  pub not_headed : {a : Result Header Refusal} → HeaderBy least s (length d) (length u) a → (r : Refusal) → a ≡ Err r → (x : Result ℕ Refusal) → IsErrAnd x (λ q. q ≡ r) → OutcomeOf least piece s d d u u x
+  not_headed H r q x h = refused_by _ (contents_of s) d u x r h (early least s _ _ (number r) (some r) (sym (not_headed_by least s _ _ H r q)))
+
+  module _ (h : Header) (H : HeaderRead least s h (length d) (length u)) where
+    read_as : (x : Result Lines Refusal) → LinesRead s h x → ReadBy least s (length d) (length u) x
+    read_as x read = lines_outcome s h (header_is s h H.header) least _ _ H.room H.space x read
+
+    module _ (l : Lines) {a : Result Unit Refusal} (R : ReadInto s h l a) where
+      pub not_read_into : (r : Refusal) → a ≡ Err r → (x : Result ℕ Refusal) → IsErrAnd x (λ q. q ≡ r) → OutcomeOf least piece s d d u u x
+      not_read_into r q x i = not_read least piece s d u (read_as (Err r) (subst (ReadInto s h l) q R)) r refl x i
+
+      module _ (done : Unit) (q : a ≡ Ok done) where
+        as_lines : ReadBy least s (length d) (length u) (Ok l)
+        as_lines = read_as (Ok l) (subst (ReadInto s h l) q R)
+
+        pub ready_into : Ready least l (length d) (length u)
+        ready_into = ready least piece s d u as_lines l refl
+
+        pub scored_into : (e t : List ℕ) (x : Result ℕ Refusal) → OutcomeBy piece l d e u t x → OutcomeOf least piece s d e u t x
+        scored_into e t x o = lines_scored least piece s d u as_lines l refl e t x o

@@ -6,13 +6,13 @@ use Rattle.finite.specs.Refusals.{verdict}
 use Rattle.finite.proofs.Cases.{by_bool}
 use Rattle.topology.specs.Lines.{GeneLines}
 use Rattle.layout.specs.Lines.{nodes_of, genes_in}
-use Rattle.layout.specs.Headers.{costs, WithinLimits}
+use Rattle.layout.specs.Headers.{costs, WithinLimits, FewLines}
 use Rattle.layout.specs.declared.Header.{Header}
 use Rattle.layout.specs.declared.lines.GeneColumns.{GeneColumns}
 use Rattle.layout.specs.declared.lines.Lines.{Lines}
 use Rattle.refusals.specs.declared.Refusal.{Refusal}
 use Rattle.refusals.specs.Numbers.{number}
-use Rattle.sheet.specs.Sheets.{nodes, formed, node_columns, refusal3, HeadedIs, LinesRead}
+use Rattle.sheet.specs.Sheets.{nodes, whole, formed, node_columns, refusal3, HeadedIs, ReadInto, LinesRead}
 use Rattle.sheet.proofs.Refusals.{reading_3}
 use Rattle.gene_tree.specs.Refusals.{gene_refusals}
 use Rattle.newick.specs.Answers.{Says, Promise}
@@ -22,11 +22,11 @@ use Rattle.newick.proofs.Writing.{some_gene}
 use Rattle.family.specs.Families.{Contents}
 use Rattle.family.specs.Buffers.{least_words, least_bytes}
 use Rattle.family.specs.inner.Stages.{Written}
-use Rattle.score.proofs.Outcomes.{HeaderIs, nodes_are, stamps_small}
+use Rattle.score.proofs.Outcomes.{HeaderIs, header_is, nodes_are, stamps_small}
 use Rattle.answer.specs.Outcome.{Outcome}
 use Rattle.score_newick.specs.Sheets.{refusal4, refusal5}
 use Rattle.score_newick.specs.Refusals.{curator_refusals, contents_of, refusal}
-use Rattle.score_newick.specs.inner.Stages.{bare, Ready, contents_by, OutcomeBy, OutcomeOf}
+use Rattle.score_newick.specs.inner.Stages.{bare, HeaderRead, Ready, contents_by, OutcomeBy, OutcomeOf}
 use Rattle.score_newick.proofs.Readings.{reading_4, four_passes, passes_four, passes_five}
 use Rattle.score_newick.proofs.Refusals.{refusal_3, refusal_4, refusal_5, refusal_later}
 
@@ -49,6 +49,13 @@ module _ (s text : List ℕ) (h : Header) (k : HeaderIs s h) (b w : ℕ) (space 
   module _ (one : h.genes ≡ 1) where
     four : refusal4 s ≡ false
     four = passes_four s (subst WithinLimits k.header k.limited) (sym (ap (λ (x : Header). x.genes) k.header) ∙ one)
+
+    -- the length is another than it tells without gene lines
+    pub length_refused : whole s h.nodes 0 ≡ false → refusal s text b w ≡ 5
+    unfolding refusal5
+    length_refused e =
+        let f : whole s (nodes s) 0 ≡ false = subst (λ (y : Header). whole s y.nodes 0 ≡ false) k.header e in
+        refusal_5 s text b w space room k.three four (rw f refl)
 
     -- what reading the lines comes to
     module _ {x : Result Lines Refusal} (read : LinesRead s (bare h) x) where
@@ -84,6 +91,31 @@ module _ (s text : List ℕ) (h : Header) (k : HeaderIs s h) (b w : ℕ) (space 
             let five : refusal5 s ≡ false = passes_five s (subst (λ (y : Header). formed s y.nodes 0 ≡ true) k.header q.0) in
             let v = refusal_later s text b w space room k.three four five in
             rw (← eb, ← ew, v) (subst (λ (X : Contents). Outcome (verdict (curator_refusals text X)) X d e u t r) contents_are o)
+
+-- lines that are read into, after a header that is accepted and the length that it tells: reading comes to a
+module _ (s text : List ℕ) (h : Header) (b w : ℕ) (H : HeaderRead s h b w) where
+  accepted_is : HeaderIs s H.accepted
+  accepted_is = header_is s H.accepted H.header
+
+  pub few_lines : FewLines h
+  few_lines = let l = accepted_is.limited in rw H.bared (record { few_nodes = l.few_nodes; few_genes = omega arith })
+
+  read_as : (x : Result Lines Refusal) → LinesRead s h x → LinesRead s (bare H.accepted) x
+  read_as x read = subst (λ (y : Header). LinesRead s y x) H.bared read
+
+  module _ (l : Lines) {a : Result Unit Refusal} (R : ReadInto s h l a) where
+    pub not_read_into : (r : Refusal) → a ≡ Err r → refusal s text b w ≡ number r
+    not_read_into r q = lines_refused s text H.accepted accepted_is b w H.space H.room H.one (read_as (Err r) (subst (ReadInto s h l) q R)) r refl
+
+    module _ (done : Unit) (q : a ≡ Ok done) where
+      read_ok : LinesRead s (bare H.accepted) (Ok l)
+      read_ok = read_as (Ok l) (subst (ReadInto s h l) q R)
+
+      pub ready_into : Ready l b w
+      ready_into = ready s text H.accepted accepted_is b w H.space H.room H.one read_ok l refl
+
+      pub five_passed_into : (d e u t : List ℕ) (r : Result ℕ Refusal) → b ≡ length d → w ≡ length u → OutcomeBy l text d e u t r → OutcomeOf s text d e u t r
+      five_passed_into = five_passed s text H.accepted accepted_is b w H.space H.room H.one read_ok l refl
 
 -- a text that the reader took
 module _ (text : List ℕ) (before after : GeneColumns) {r : Result ℕ Refusal} (p : Promise text before after r) (m : ℕ) (e : r ≡ Ok m) where

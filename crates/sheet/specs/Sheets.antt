@@ -149,6 +149,22 @@ abbrev pub GenesRead : List ℕ → (n m : ℕ) → Option GeneColumns → Type 
 GenesRead s n m (Some l) = (every m (gene_line s n) ≡ true) × (l ≡ gene_columns s n m)
 GenesRead s n m None = every m (gene_line s n) ≡ false
 
+-- columns that no line has been read into
+abbrev pub no_nodes : NodeColumns
+no_nodes = record { principal = zeros; secondary = zeros; stamp = zeros; species = zeros }
+
+abbrev pub no_genes : GeneColumns
+no_genes = record { parent = zeros; species = zeros }
+
+-- the same, of columns that are lent, as they are left
+abbrev pub NodesReadInto : List ℕ → ℕ → NodeColumns → Option Unit → Type 0
+NodesReadInto s n l (Some _) = NodesRead s n (Some l)
+NodesReadInto s n l None = NodesRead s n None
+
+abbrev pub GenesReadInto : List ℕ → (n m : ℕ) → GeneColumns → Option Unit → Type 0
+GenesReadInto s n m l (Some _) = GenesRead s n m (Some l)
+GenesReadInto s n m l None = GenesRead s n m None
+
 -- what 5 asks of a sheet of n nodes and m genes, as a test
 abbrev pub formed : List ℕ → (n m : ℕ) → Bool
 formed s n m = whole s n m && every n (node_line s) && every m (gene_line s n)
@@ -157,3 +173,12 @@ formed s n m = whole s n m && every n (node_line s) && every m (gene_line s n)
 abbrev pub LinesRead : List ℕ → Header → Result Lines Refusal → Type 0
 LinesRead s h (Ok l) = (formed s h.nodes h.genes ≡ true) × (l.header ≡ h) × (l.nodes ≡ node_columns s h.nodes) × (l.genes ≡ gene_columns s h.nodes h.genes)
 LinesRead s h (Err r) = (formed s h.nodes h.genes ≡ false) × (r ≡ BadLines)
+
+-- lines that have an accepted header, of a text of the length that it tells, and no more
+abbrev pub Unread : List ℕ → Lines → Type 0
+Unread s l = (whole s l.header.nodes l.header.genes ≡ true) × (l.nodes ≡ no_nodes) × (l.genes ≡ no_genes)
+
+-- what reading into them comes to: the lines that are left are what is read
+abbrev pub ReadInto : List ℕ → Header → Lines → Result Unit Refusal → Type 0
+ReadInto s h l (Ok _) = LinesRead s h (Ok l)
+ReadInto s h l (Err r) = LinesRead s h (Err r)

@@ -5,7 +5,7 @@ ghost use Rattle.std.specs.Prelude.{◌≡◌, ◌+◌, ◌≤◌, ◌&&◌};
 ghost use Rattle.finite.specs.Tables.{at};
 ghost use Rattle.finite.specs.Tests.{same};
 ghost use Rattle.layout.specs.Headers.{FewLines};
-ghost use Rattle.sheet.specs.Sheets.{line_no, is_line, node_line, gene_line, header_of, HeadedIs, limits, whole, told, NodesRead, GenesRead, LinesRead};
+ghost use Rattle.sheet.specs.Sheets.{line_no, is_line, node_line, gene_line, header_of, HeadedIs, limits, whole, told, no_nodes, no_genes, Unread, NodesReadInto, GenesReadInto, ReadInto, LinesRead};
 
 use columns::Cursor;
 use layout::Header;
@@ -16,7 +16,9 @@ use text_lines::{FIELDS, LINE};
 
 // The numbers of line i, read at its place: the definitions (`line_no`, `node_line`) speak of the place of a line, and a cursor handed on from the line before
 // would have to be shown to be that place.
+// (Inlined: called, its numbers are copied, and reading takes a third longer.)
 #[tactic(auto, using(crate::proofs::Reading::line_some, crate::proofs::Reading::line_none))]
+#[inline(always)]
 fn line(s: &[u8], i: usize) -> Option<[u32; FIELDS]>
     requires { i ≤ 254 }
     ensures { result ≡ told (is_line s.now i) (line_no s.now i).line }
@@ -74,6 +76,15 @@ fn bears_gene(line: &[u32; FIELDS], g: usize) -> bool
     bears(line, g) && fourth == 0 && fifth == 0
 }
 
+// The length rule of 5, of a header whose numbers are few. (A function of its own, so that a call asks it before it has room for lines.)
+#[tactic(auto, unfolding(crate::specs::Sheets::whole, finite::specs::Tests::same))]
+pub fn is_whole(s: &[u8], header: Header) -> bool
+    requires { FewLines header }
+    ensures { result ≡ whole s.now header.nodes header.genes }
+{
+    s.len() == LINE * (1 + header.nodes + header.genes)
+}
+
 // A text whose header was accepted. (Node lines and gene lines have a reader each: they differ in place, test and columns, and a reader of both would take
 // all three.)
 #[derive(Clone, Copy)]
@@ -84,14 +95,6 @@ struct Headed<'a> {
 }
 
 impl Headed<'_> {
-    // The length rule of 5.
-    #[tactic(auto, unfolding(crate::specs::Sheets::whole, finite::specs::Tests::same))]
-    fn is_whole(&self) -> bool
-        ensures { result ≡ whole self.now.text.now self.now.header.nodes self.now.header.genes }
-    {
-        self.text.len() == LINE * (1 + self.header.nodes + self.header.genes)
-    }
-
     // The numbers of node v's line, where it is well formed and in number.
     #[tactic(auto, using(crate::proofs::Reading::node_unread, crate::proofs::Reading::node_read, crate::proofs::Reading::node_misnumbered))]
     fn node(&self, v: usize) -> Option<[u32; FIELDS]>
@@ -110,16 +113,11 @@ impl Headed<'_> {
         line(self.text, self.header.nodes + g).filter(|numbers| bears_gene(numbers, g))
     }
 
-    // The node lines, where all are so.
-    fn nodes(&self) -> Option<NodeColumns>
-        ensures { NodesRead self.now.text.now self.now.header.nodes result }
+    // The node lines, where all are so, into columns of zeros.
+    fn nodes(&self, nodes: &mut NodeColumns) -> Option<()>
+        requires { nodes.old ≡ no_nodes }
+        ensures { NodesReadInto self.now.text.now self.now.header.nodes nodes.new result }
     {
-        let mut nodes = NodeColumns {
-            principal: ZEROS,
-            secondary: ZEROS,
-            stamp: ZEROS,
-            species: ZEROS,
-        };
         for v in 1..=self.header.nodes {
             let [_, principal, secondary, stamp, species] = self.node(v)?;
             nodes.principal[v] = principal;
@@ -127,42 +125,64 @@ impl Headed<'_> {
             nodes.stamp[v] = stamp;
             nodes.species[v] = species;
         }
-        Some(nodes)
+        Some(())
     }
 
-    // The gene lines, where all are so.
-    fn genes(&self) -> Option<GeneColumns>
-        ensures { GenesRead self.now.text.now self.now.header.nodes self.now.header.genes result }
+    // The gene lines, where all are so, into columns of zeros.
+    fn genes(&self, genes: &mut GeneColumns) -> Option<()>
+        requires { genes.old ≡ no_genes }
+        ensures { GenesReadInto self.now.text.now self.now.header.nodes self.now.header.genes genes.new result }
     {
-        let mut genes = GeneColumns {
-            parent: ZEROS,
-            species: ZEROS,
-        };
         for g in 1..=self.header.genes {
             let [_, parent, species, ..] = self.gene(g)?;
             genes.parent[g] = parent;
             genes.species[g] = species;
         }
-        Some(genes)
+        Some(())
     }
 }
 
-// The lines after an accepted header. (Inlined, since two calls read lines: so the columns are filled where the call has them, and a function's result would
-// be copied.)
+// Columns that no line has been read into.
+pub const NO_NODES: NodeColumns = NodeColumns {
+    principal: ZEROS,
+    secondary: ZEROS,
+    stamp: ZEROS,
+    species: ZEROS,
+};
+
+pub const NO_GENES: GeneColumns = GeneColumns {
+    parent: ZEROS,
+    species: ZEROS,
+};
+
+// Reads the lines after an accepted header, of a text of the length that it tells, into lines that have this header and no more. (They are lent, since a
+// function's result would be copied; and the length is asked before, since to have room for lines costs more than to refuse.)
+pub fn read_into(s: &[u8], lines: &mut Lines) -> Result<(), Refusal>
+    requires { Unread s.now lines.old }
+    ensures { ReadInto s.now lines.old.header lines.new result }
+{
+    let sheet = Headed {
+        text: s,
+        header: lines.header,
+    };
+    sheet.nodes(&mut lines.nodes).ok_or(Refusal::BadLines)?;
+    sheet.genes(&mut lines.genes).ok_or(Refusal::BadLines)
+}
+
+// The lines after an accepted header. (Inlined, so that they stand where the call has them.)
 #[inline(always)]
 pub fn read_lines(s: &[u8], header: Header) -> Result<Lines, Refusal>
     requires { FewLines header }
     ensures { LinesRead s.now header result }
 {
-    let sheet = Headed { text: s, header };
-    if !sheet.is_whole() {
+    if !is_whole(s, header) {
         return Err(Refusal::BadLines);
     }
-    let nodes = sheet.nodes().ok_or(Refusal::BadLines)?;
-    let genes = sheet.genes().ok_or(Refusal::BadLines)?;
-    Ok(Lines {
+    let mut lines = Lines {
         header,
-        nodes,
-        genes,
-    })
+        nodes: NO_NODES,
+        genes: NO_GENES,
+    };
+    read_into(s, &mut lines)?;
+    Ok(lines)
 }

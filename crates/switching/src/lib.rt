@@ -27,7 +27,8 @@ pub fn bit(x: u32, k: u32, j: u32) -> u32
 }
 
 // The tree of the switching that has every reticulation on principal. (Into a tree that is lent: see `search::Work`. The parents are filled in and not
-// copied: nothing says that the lines hold 0 past n.)
+// copied: nothing says that the lines hold 0 past n. Inlined, as `Given::run` of crate `search`.)
+#[inline(always)]
 pub fn start(network: PartedNetwork, t: &mut Tree)
     requires { t.old ≡ blank }
     ensures { Held (network_of network.entry.lines.now) all_principal t.new }

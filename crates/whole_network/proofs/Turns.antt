@@ -93,6 +93,17 @@ module _ {f : Source} {s : List ℕ} {r : Row} {i : ℕ} (T : Next f s r i) wher
   pub word_inside : r.start + (order f.arcs i - 1) < length s
   word_inside = omega (arith, at_cell, T.room, cell_in n (header f).genes g v T.row.low T.row.high node_low node_high)
 
+  pub word_low : r.start + (order f.arcs i - 1) < 16129
+  word_low = omega (
+    arith,
+    at_cell,
+    cell_in n (header f).genes g v T.row.low T.row.high node_low node_high,
+    mul-le-mul {n₂ = 127} {m₂ = 127} f.lines.now.within.few_genes f.lines.now.within.few_nodes,
+  )
+
+  pub row_starts : r.start ≤ length s
+  row_starts = omega (arith, word_inside)
+
   outs : F.out v ≡ out
   outs = out_is f v node_low node_high
 

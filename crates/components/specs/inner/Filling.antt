@@ -2,7 +2,7 @@
 -- Assumes nothing.
 use Rattle.std.specs.Prelude.{◌≡◌, ℕ, ◌≤◌, ◌<◌}
 use Rattle.finite.specs.Range.{count}
-use Rattle.finite.specs.Tables.{at}
+use Rattle.finite.specs.Tables.{at, zeros}
 use Rattle.topology.specs.Networks.{Network, Node, Reticulation}
 use Rattle.topology.specs.Components.{component, member_of, index_of}
 use Rattle.topology.specs.Lines.{rank_of}
@@ -13,6 +13,10 @@ use Rattle.layout.specs.inner.Parts.{rank, top, reticulation_count, index, Bare}
 -- stamps as six columns hold them (01, "The sheet")
 pub record Dated (n : ℕ) (l : NodeColumns) : Type 0 where
   pub small : (v : ℕ) → 1 ≤ v → v ≤ n → at l.stamp v < 1000000
+
+-- a table without entries
+abbrev pub blank : Parts
+blank = record { rank = zeros; top = zeros; reticulation_count = zeros; index = zeros }
 
 -- the rank of node v by its line
 unfoldable pub rank_at : NodeColumns → ℕ → ℕ

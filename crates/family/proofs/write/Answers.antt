@@ -4,4 +4,4 @@ use Rattle.family.proofs.Reports.{whole_ready}
 use Rattle.family.proofs.write.Goals as goal
 
 pub source_of-source-requires : goal.source_of-source-requires
-source_of-source-requires c = whole_ready c.args.network _ _ c.requires.0 c.requires.1 _ c.build-genes.ensures
+source_of-source-requires c = whole_ready c.args.network _ _ c.requires.0 c.requires.1 _ c.build_into.ensures

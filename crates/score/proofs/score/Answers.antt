@@ -1,15 +1,15 @@
 -- The call: each way out has its outcome, and the promise follows from that.
 -- Assumes nothing.
 use Rattle.family.specs.Reports.{report_in}
-use Rattle.score.proofs.Outcomes.{not_read, ready, lines_scored}
+use Rattle.score.proofs.Outcomes.{not_headed, headed_by}
 use Rattle.score.proofs.Promises.{promise}
 use Rattle.score.proofs.score.Goals as goal
 
-pub returns-in_err-lines : goal.returns-in_err-lines
-returns-in_err-lines c = promise _ _ _ _ _ _ (not_read _ report_in _ _ _ c.read.ensures _ c.in_err-lines.was _ c.from_residual.ensures.1)
+pub returns-in_err-header : goal.returns-in_err-header
+returns-in_err-header c = promise _ _ _ _ _ _ (not_headed _ report_in _ _ _ c.read_header.ensures _ c.in_err-header.was _ c.from_residual.ensures.1)
 
-pub score_lines-requires : goal.score_lines-requires
-score_lines-requires c = ready _ report_in _ _ _ c.read.ensures _ c.in_ok-lines.was
+pub score_whole-requires : goal.score_whole-requires
+score_whole-requires c = headed_by _ _ _ _ c.read_header.ensures _ c.in_ok-header.was
 
 pub returns : goal.returns
-returns c = promise _ _ _ _ _ _ (lines_scored _ report_in _ _ _ c.read.ensures _ c.in_ok-lines.was _ _ _ c.score_lines.ensures)
+returns c = promise _ _ _ _ _ _ c.score_whole.ensures

@@ -8,8 +8,8 @@ use Rattle.score.proofs.score_lines.Goals as goal
 pub returns-in_err-verdict : goal.returns-in_err-verdict
 returns-in_err-verdict c = by_network report_in c.args.lines.now _ _ _ _ c.from_residual.ensures.1 c.in_err-verdict.ensures
 
-pub invariant_of-part : goal.invariant_of-part
-invariant_of-part c = record { sound = sound_in _ _ c.in_ok-verdict.ensures }
+pub invariant_of-part_into : goal.invariant_of-part_into
+invariant_of-part_into c = record { sound = sound_in _ _ c.in_ok-verdict.ensures }
 
 pub returns-in_err-verdict-2 : goal.returns-in_err-verdict-2
 returns-in_err-verdict-2 c = by_components report_in c.args.lines.now _ _ c.in_ok-verdict.ensures _ _ c.from_residual-in_err-verdict-2.ensures.1 c.in_err-verdict-2.ensures

@@ -6,16 +6,16 @@ use Rattle.score_history.proofs.Telling.{tabled, room, with_history}
 use Rattle.score_history.proofs.write.Goals as goal
 
 pub source_of-source-requires : goal.source_of-source-requires
-source_of-source-requires c = whole_ready c.args.network _ _ c.requires.sized c.requires.passed _ c.build-genes.ensures
+source_of-source-requires c = whole_ready c.args.network _ _ c.requires.sized c.requires.passed _ c.build_into.ensures
 
 pub append-requires : goal.append-requires
 append-requires c =
     let ok = admitted c.args.network _ _ c.requires.sized c.requires.passed in
-    let S = is_source _ _ c.source_of-source.result c.source_of-source.ensures c.build-genes.ensures in
+    let S = is_source _ _ c.source_of-source.result c.source_of-source.ensures c.build_into.ensures in
     (tabled _ _ S ok _ _ _ _ _ c.write_from-bytes.ensures, room _ _ S ok _ _ _ _ _ c.write_from-bytes.ensures c.requires.room)
 
 pub returns : goal.returns
 returns c =
     let ok = admitted c.args.network _ _ c.requires.sized c.requires.passed in
-    let S = is_source _ _ c.source_of-source.result c.source_of-source.ensures c.build-genes.ensures in
+    let S = is_source _ _ c.source_of-source.result c.source_of-source.ensures c.build_into.ensures in
     with_history _ _ S ok _ _ _ _ _ c.write_from-bytes.ensures c.append.ensures.0 c.append.ensures.1

@@ -12,8 +12,8 @@ use Rattle.score_newick.proofs.score_lines.Goals as goal
 pub returns-in_err-verdict : goal.returns-in_err-verdict
 returns-in_err-verdict c = refused_by _ _ _ _ _ _ c.from_residual.ensures.1 (network_refuses _ _ (no_others _ _) _ c.in_err-verdict.ensures)
 
-pub invariant_of-part : goal.invariant_of-part
-invariant_of-part c = record { sound = sound_in _ _ c.in_ok-verdict.ensures }
+pub invariant_of-part_into : goal.invariant_of-part_into
+invariant_of-part_into c = record { sound = sound_in _ _ c.in_ok-verdict.ensures }
 
 pub returns-in_err-verdict-2 : goal.returns-in_err-verdict-2
 returns-in_err-verdict-2 c = refused_by _ _ _ _ _ _ c.from_residual-in_err-verdict-2.ensures.1

@@ -1,13 +1,13 @@
 -- The call: each way out has its outcome, and the promise follows from that.
 -- Assumes nothing.
-use Rattle.std.proofs.Common.{rules, sym, subst, ◌∙◌, refl, Result}
+use Rattle.std.proofs.Common.{rules, arith, sym, subst, ◌∙◌, refl, Result}
 use Rattle.layout.specs.declared.Header.{Header}
 use Rattle.refusals.specs.declared.Refusal.{Refusal}
 use Rattle.sheet.specs.Sheets.{HeadedIs}
 use Rattle.answer.proofs.Answers.{refuses}
 use Rattle.score.proofs.Outcomes.{header_is, refused_by}
 use Rattle.score_newick.proofs.Refusals.{refusal_1, refusal_2}
-use Rattle.score_newick.proofs.Outcomes.{header_refused, genes_refused, lines_refused, ready, five_passed}
+use Rattle.score_newick.proofs.Outcomes.{header_refused, genes_refused, length_refused}
 use Rattle.score_newick.proofs.Promises.{promise}
 use Rattle.score_newick.proofs.score_newick.Goals as goal
 
@@ -27,18 +27,26 @@ returns-then-header-ne1 c =
     let k = header_is _ _ (sym c.in_ok-header.was ∙ c.read_header.ensures.0) in
     promise _ _ _ _ _ _ _ (refuses _ _ _ _ _ (genes_refused _ _ _ k _ _ (search rules) (search rules) c.if-header-ne1.true))
 
-pub returns-in_err-lines : goal.returns-in_err-lines
-returns-in_err-lines c =
-    let k = header_is _ _ (sym c.in_ok-header.was ∙ c.read_header.ensures.0) in
-    promise _ _ _ _ _ _ _ (refused_by _ _ _ _ _ _ c.from_residual-in_err-lines.ensures.1
-    (lines_refused _ _ _ k _ _ (search rules) (search rules) c.if-header-ne1.false c.read_lines.ensures _ c.in_err-lines.was))
+pub is_whole-requires : goal.is_whole-requires
+is_whole-requires c =
+    let l = (header_is _ _ (sym c.in_ok-header.was ∙ c.read_header.ensures.0)).limited in
+    record { few_nodes = l.few_nodes; few_genes = omega arith }
 
-pub score_lines-requires : goal.score_lines-requires
-score_lines-requires c =
+pub returns-then-not-is_whole : goal.returns-then-not-is_whole
+returns-then-not-is_whole c =
     let k = header_is _ _ (sym c.in_ok-header.was ∙ c.read_header.ensures.0) in
-    ready _ c.args.tree.now _ k _ _ (search rules) (search rules) c.if-header-ne1.false c.read_lines.ensures _ c.in_ok-lines.was
+    promise _ _ _ _ _ _ _ (refuses _ _ _ _ _ (length_refused _ _ _ k _ _ (search rules) (search rules) c.if-header-ne1.false (search rules)))
+
+pub score_whole-requires : goal.score_whole-requires
+score_whole-requires c = record {
+  accepted = c.in_ok-header.header;
+  header = sym c.in_ok-header.was ∙ c.read_header.ensures.0;
+  one = c.if-header-ne1.false;
+  bared = refl;
+  total = search rules;
+  room = search rules;
+  space = search rules;
+}
 
 pub returns : goal.returns
-returns c =
-    let k = header_is _ _ (sym c.in_ok-header.was ∙ c.read_header.ensures.0) in
-    promise _ _ _ _ _ _ _ (five_passed _ _ _ k _ _ (search rules) (search rules) c.if-header-ne1.false c.read_lines.ensures _ c.in_ok-lines.was _ _ _ _ _ refl refl c.score_lines.ensures)
+returns c = promise _ _ _ _ _ _ _ c.score_whole.ensures

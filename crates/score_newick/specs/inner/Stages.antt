@@ -1,12 +1,13 @@
 -- What the stages of the call hand on to each other.
 -- Assumes nothing.
-use Rattle.std.specs.Prelude.{List, ℕ, ◌≤◌, length, Result}
+use Rattle.std.specs.Prelude.{◌≡◌, true, List, ℕ, ◌≤◌, length, Result, Ok}
 use Rattle.finite.specs.Refusals.{verdict}
 use Rattle.reconciliation.specs.Limits.{Limits}
 use Rattle.layout.specs.Headers.{costs}
 use Rattle.layout.specs.Lines.{nodes_of}
 use Rattle.layout.specs.declared.Header.{Header}
 use Rattle.layout.specs.declared.lines.Lines.{Lines}
+use Rattle.sheet.specs.Sheets.{header_of, whole}
 use Rattle.components.specs.inner.Filling.{Dated}
 use Rattle.newick.specs.Reading.{lines_read}
 use Rattle.family.specs.Buffers.{least_words, least_bytes}
@@ -18,6 +19,16 @@ use Rattle.score_newick.specs.Refusals.{curator_refusals, contents_of, refusal}
 -- a header, where the lines have no genes yet
 abbrev pub bare : Header → Header
 bare h = record { nodes = h.nodes; genes = 0; duplication = h.duplication; transfer = h.transfer; loss = h.loss }
+
+-- a header that is accepted, with 1 for m, and bared of its genes; of a sheet of the length that it then tells, and buffers that fit
+pub record HeaderRead (s : List ℕ) (h : Header) (bytes words : ℕ) : Type 0 where
+  pub accepted : Header
+  pub header : Ok accepted ≡ header_of s
+  pub one : accepted.genes ≡ 1
+  pub bared : h ≡ bare accepted
+  pub total : whole s h.nodes h.genes ≡ true
+  pub room : least_bytes ≤ bytes
+  pub space : least_words ≤ words
 
 -- the lines of a sheet without gene lines: its other numbers within their limits, buffers that fit, and every stamp in a field
 pub record Ready (lines : Lines) (bytes words : ℕ) : Type 0 where

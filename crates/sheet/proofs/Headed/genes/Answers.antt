@@ -7,7 +7,7 @@ use Rattle.sheet.proofs.Headed.genes.Goals as goal
 
 pub loop-g-init : goal.loop-g-init
 unfolding zeros
-loop-g-init c = record { within = omega arith; every_line = every_start _; columns = genes_start _ _ }
+loop-g-init c = record { within = omega arith; every_line = every_start _; columns = c.requires ∙ genes_start _ _ }
 
 pub returns-in_err-parent : goal.returns-in_err-parent
 returns-in_err-parent c = rw c.from_residual.ensures (lines_stop _ _ c.loop-g.g _ c.loop-g.auto.g (omega (arith, c.loop-g-test.true)) (sym c.in_err-parent.was ∙ c.gene.ensures))

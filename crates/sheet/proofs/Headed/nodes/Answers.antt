@@ -7,7 +7,7 @@ use Rattle.sheet.proofs.Headed.nodes.Goals as goal
 
 pub loop-v-init : goal.loop-v-init
 unfolding zeros
-loop-v-init c = record { within = omega arith; every_line = every_start _; columns = nodes_start _ }
+loop-v-init c = record { within = omega arith; every_line = every_start _; columns = c.requires ∙ nodes_start _ }
 
 pub returns-in_err-principal : goal.returns-in_err-principal
 returns-in_err-principal c = rw c.from_residual.ensures (lines_stop _ _ c.loop-v.v _ c.loop-v.auto.v (omega (arith, c.loop-v-test.true)) (sym c.in_err-principal.was ∙ c.node.ensures))
