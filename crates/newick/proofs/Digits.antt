@@ -75,9 +75,9 @@ module _ (text : List ℕ) (k n next : ℕ) (r : Option Numeral) (q : Some (more
   pub more_none : None ≡ digit_at text next → Some (number n next) ≡ r
   more_none e = rw (← more_stop text k n next (no_digit text next e)) q
 
-  pub more_end : k ≡ 0 → Some (number n next) ≡ r
+  pub more_end : (last : ℕ) → last ≡ next → k ≡ 0 → Some (number n last) ≡ r
   unfolding more_at
-  more_end z = rw z at q
+  more_end last e z = rw e (rw z at q)
 
   -- a digit more
   pub more_turn : (j d : ℕ) → k ≡ suc j → Some d ≡ digit_at text next → Some (more_at text j (n * 10 + d) (next + 1)) ≡ r

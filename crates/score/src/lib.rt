@@ -21,7 +21,7 @@ pub const LEAST_WORDS: usize = 16129;
 pub const LEAST_BYTES: usize = 5952;
 
 // The header of a sheet that neither 1 to 4 nor the length rule of 5 refuses, of a call with buffers of so many bytes and words, which asks for so many bytes
-// at least.
+// at least. (Inlined, as several calls ask it.)
 #[inline(always)]
 pub fn read_header(
     sheet: &[u8],

@@ -93,7 +93,7 @@ module _ (s text : List ℕ) (h : Header) (k : HeaderIs s h) (b w : ℕ) (space 
             rw (← eb, ← ew, v) (subst (λ (X : Contents). Outcome (verdict (curator_refusals text X)) X d e u t r) contents_are o)
 
 -- lines that are read into, after a header that is accepted and the length that it tells: reading comes to a
-module _ (s text : List ℕ) (h : Header) (b w : ℕ) (H : HeaderRead s h b w) where
+module _ (s : List ℕ) (h : Header) (b w : ℕ) (H : HeaderRead s h b w) where
   accepted_is : HeaderIs s H.accepted
   accepted_is = header_is s H.accepted H.header
 
@@ -103,7 +103,7 @@ module _ (s text : List ℕ) (h : Header) (b w : ℕ) (H : HeaderRead s h b w) w
   read_as : (x : Result Lines Refusal) → LinesRead s h x → LinesRead s (bare H.accepted) x
   read_as x read = subst (λ (y : Header). LinesRead s y x) H.bared read
 
-  module _ (l : Lines) {a : Result Unit Refusal} (R : ReadInto s h l a) where
+  module _ (text : List ℕ) (l : Lines) {a : Result Unit Refusal} (R : ReadInto s h l a) where
     pub not_read_into : (r : Refusal) → a ≡ Err r → refusal s text b w ≡ number r
     not_read_into r q = lines_refused s text H.accepted accepted_is b w H.space H.room H.one (read_as (Err r) (subst (ReadInto s h l) q R)) r refl
 

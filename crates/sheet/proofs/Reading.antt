@@ -47,20 +47,21 @@ not_told : (p : Bool) (line : List ℕ) → None ≡ told p line → p ≡ false
 not_told true line e = absurd (none-some _ e)
 not_told false line e = refl
 
--- a line of node v is told where it is read and its number passes, and one of gene g where its last two fields do too
+-- a line of node v is told where it is read and its number passes (that it is compared with w is how the code gives v), and one of gene g where its last two
+-- fields do too
 module _ (s : List ℕ) (v : ℕ) where
   pub node_unread : None ≡ told (is_line s v) (line_no s v).line → None ≡ told (node_line s v) (line_no s v).line
   unfolding node_line
   node_unread e = rw (not_told _ _ e)
 
-  module _ (ns : List ℕ) (e : Some ns ≡ told (is_line s v) (line_no s v).line) where
-    pub node_read : same (at ns 0) v ≡ true → Some ns ≡ told (node_line s v) (line_no s v).line
+  module _ (ns : List ℕ) (e : Some ns ≡ told (is_line s v) (line_no s v).line) (w : ℕ) (f : w ≡ v) where
+    pub node_read : same (at ns 0) w ≡ true → Some ns ≡ told (node_line s v) (line_no s v).line
     unfolding node_line cell
-    node_read q = let t = cond_some _ _ _ (sym e) in rw (t.0, t.1, q) refl
+    node_read q = let t = cond_some _ _ _ (sym e) in rw (t.0, t.1, ← f, q) refl
 
-    pub node_misnumbered : same (at ns 0) v ≡ false → None ≡ told (node_line s v) (line_no s v).line
+    pub node_misnumbered : same (at ns 0) w ≡ false → None ≡ told (node_line s v) (line_no s v).line
     unfolding node_line cell
-    node_misnumbered q = let t = cond_some _ _ _ (sym e) in rw (t.0, t.1, q)
+    node_misnumbered q = let t = cond_some _ _ _ (sym e) in rw (t.0, t.1, ← f, q)
 
 module _ (s : List ℕ) (n g : ℕ) where
   pub gene_unread : None ≡ told (is_line s (n + g)) (line_no s (n + g)).line → None ≡ told (gene_line s n g) (line_no s (n + g)).line

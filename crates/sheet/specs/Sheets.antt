@@ -174,7 +174,7 @@ abbrev pub LinesRead : List ℕ → Header → Result Lines Refusal → Type 0
 LinesRead s h (Ok l) = (formed s h.nodes h.genes ≡ true) × (l.header ≡ h) × (l.nodes ≡ node_columns s h.nodes) × (l.genes ≡ gene_columns s h.nodes h.genes)
 LinesRead s h (Err r) = (formed s h.nodes h.genes ≡ false) × (r ≡ BadLines)
 
--- lines that have an accepted header, of a text of the length that it tells, and no more
+-- lines that have a header and no more, of a text of the length that it tells
 abbrev pub Unread : List ℕ → Lines → Type 0
 Unread s l = (whole s l.header.nodes l.header.genes ≡ true) × (l.nodes ≡ no_nodes) × (l.genes ≡ no_genes)
 

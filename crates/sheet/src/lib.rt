@@ -16,9 +16,7 @@ use text_lines::{FIELDS, LINE};
 
 // The numbers of line i, read at its place: the definitions (`line_no`, `node_line`) speak of the place of a line, and a cursor handed on from the line before
 // would have to be shown to be that place.
-// (Inlined: called, its numbers are copied, and reading takes a third longer.)
 #[tactic(auto, using(crate::proofs::Reading::line_some, crate::proofs::Reading::line_none))]
-#[inline(always)]
 fn line(s: &[u8], i: usize) -> Option<[u32; FIELDS]>
     requires { i ≤ 254 }
     ensures { result ≡ told (is_line s.now i) (line_no s.now i).line }

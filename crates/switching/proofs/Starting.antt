@@ -39,10 +39,10 @@ module _ (w : PartedNetwork) where
   unfolding network nodes_in
   parent_is v = parent_principal N v
 
-  pub started : {t : Tree} {u a : List ℕ} → t ≡ blank → u ≡ filled n t.up (at l.nodes.principal) → a ≡ filled n zeros (children n (at l.nodes.principal))
-      → Held N all_principal (record { up = u; lateral = t.lateral; rank = w.parts.now.rank; arcs = a })
+  pub started : {t : Tree} {u r a : List ℕ} → t ≡ blank → u ≡ filled n t.up (at l.nodes.principal) → r ≡ w.parts.now.rank → a ≡ filled n zeros (children n (at l.nodes.principal))
+      → Held N all_principal (record { up = u; lateral = t.lateral; rank = r; arcs = a })
   unfolding network nodes_in on_arcs on_secondary
-  started et eu ea = rw (ea, eu, et) (record {
+  started et eu er ea = rw (ea, er, eu, et) (record {
     ups = λ v. ap (λ (f : ℕ → ℕ). f v) (column_is n (at l.nodes.principal) l.within.few_nodes) ∙ sym (parent_is v);
     laterals = flags_clear;
     ranks = w.parted.ranks;

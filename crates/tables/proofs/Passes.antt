@@ -40,14 +40,18 @@ module _ (n : ℕ) (f after : ℕ → ℕ) (few : n ≤ 127) where
     past = λ v l. zeros_at v;
   })
 
-  pub noted_turn : (w p q : ℕ) (out : List ℕ) → 1 ≤ w → w ≤ n → p ≡ f w → q ≡ inside_after n after p w → q ≤ n → Noted n f after w out → Noted n f after (w - 1) (set out q w)
-  noted_turn w p q out lw uw ep eq uq s = record {
+  noted_one : (w p q : ℕ) (out : List ℕ) → 1 ≤ w → w ≤ n → p ≡ f w → q ≡ inside_after n after p w → q ≤ n → Noted n f after w out → Noted n f after (w - 1) (set out q w)
+  noted_one w p q out lw uw ep eq uq s = record {
     long = length-set out q w ∙ s.long;
     within = λ v l u. by_eq v q
         (λ e. rw e (get_or-set_same out q w 0 (omega (arith, s.long)) ∙ lowest_yes n w (is_next f (after q) q) lw uw (noted_here n f after w p q ep eq (rw e at l))))
         (λ d. get_or-set_other out q v w 0 d ∙ s.within v l u ∙ lowest_no n w (is_next f (after v) v) lw (noted_not n f after w p q ep eq v u d));
     past = λ v l. get_or-set_other out q v w 0 (λ e. omega arith) ∙ s.past v l;
   }
+
+  -- the turn at w, whatever the form in which the code gives n, the parent and w
+  pub noted_turn : (w k p x q : ℕ) (out : List ℕ) → 1 ≤ w → w ≤ n → q ≡ inside_after k after p x → k ≡ n → p ≡ f w → x ≡ w → q ≤ k → Noted n f after w out → Noted n f after (w - 1) (set out q w)
+  noted_turn w k p x q out lw uw eq ek ep ex uq s = noted_one w p q out lw uw ep (eq ∙ rw (ek, ex)) (omega (arith, uq, ek)) s
 
   pub noted_done : (w : ℕ) (out : List ℕ) → w ≤ 0 → Noted n f after w out → set out 0 0 ≡ filled n zeros (λ v. next n f (after v) v)
   unfolding next
@@ -109,9 +113,9 @@ module _ (n : ℕ) (f : ℕ → ℕ) (few : n ≤ 127) where
       passed : (v : ℕ) → v ≤ n → v ≡ p → v ≡ inside n p
       passed v u e = e ∙ inside_in n p (omega arith)
 
-  -- the turn at v, after which those below u are passed
-  pub counted_turn : (v u p : ℕ) (out r : List ℕ) → 1 ≤ v → u ≡ v → p ≡ f v → r ≡ one_more n out p → Counted n f (v - 1) out → Counted n f u r
-  counted_turn v u p out r l e ep er s = let e₁ : v - 1 + 1 ≡ v = omega arith in rw e (rw e₁ at (counted_one (v - 1) p out r (rw e₁ ep) er s))
+  -- the turn at v, after which those below u are passed, whatever the form in which the code gives n and the parent
+  pub counted_turn : (v u k p : ℕ) (out r : List ℕ) → 1 ≤ v → u ≡ v → r ≡ one_more k out p → k ≡ n → p ≡ f v → Counted n f (v - 1) out → Counted n f u r
+  counted_turn v u k p out r l e er ek ep s = let e₁ : v - 1 + 1 ≡ v = omega arith in rw e (rw e₁ at (counted_one (v - 1) p out r (rw e₁ ep) (er ∙ rw ek) s))
 
   pub counted_few : (w q : ℕ) (out : List ℕ) → w ≤ n → Counted n f w out → at out q ≤ 127
   counted_few w q out l s = omega (arith, s.small q)

@@ -1,4 +1,4 @@
--- `switching::start` meets its contract. The parents are filled with what the closure reads, and the ranks are those of the parts.
+-- `switching::start` meets its contract. The parents are filled with what the closure reads, and the ranks are those of the parts, however they are copied.
 -- Assumes nothing.
 use Rattle.std.proofs.Common.{ap, rules}
 use Rattle.finite.specs.Tables.{at}
@@ -13,4 +13,5 @@ pub returns : goal.returns
 returns c = let w = c.args.network in
     started w c.requires
     (c.fill.ensures (at w.lines.now.nodes.principal) (λ v r low high k. search rules))
+    (search rules)
     c.child_counts.ensures

@@ -34,5 +34,4 @@ loop-next-preserved c =
 pub returns-clause-value : goal.returns-clause-value
 returns-clause-value c =
     let l = c.loop-next in
-    let e : l.next ≡ c.args.at + 6 = omega arith in
-    rw (← e) (more_end c.args.self.now.text.now (c.args.at + 6 - l.next) l.species l.next _ l.invariant.rest (omega arith))
+    more_end c.args.self.now.text.now (c.args.at + 6 - l.next) l.species l.next _ l.invariant.rest _ (omega arith) (omega arith)
