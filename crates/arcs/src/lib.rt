@@ -6,7 +6,7 @@ ghost use Rattle.std.specs.Prelude.{◌≡◌, ◌≤◌};
 ghost use Rattle.finite.specs.Tables.{at};
 ghost use Rattle.topology.specs.Networks.{Network};
 ghost use Rattle.layout.specs.Lines.{nodes_of, network_of};
-ghost use Rattle.arcs.specs.inner.Arcs.{leaving, leaving_in, Ordered, Laid};
+ghost use Rattle.arcs.specs.inner.Arcs.{leaving, leaving_in, blank, Ordered, Laid};
 ghost use Rattle.arcs.specs.inner.Walks.{place, Walked, Due, Visited};
 
 use layout::lines::Lines;
@@ -21,6 +21,14 @@ pub struct Arcs {
     pub second: Column,
     pub other: Column,
 }
+
+// A table of arcs before it is filled.
+pub const UNFILLED: Arcs = Arcs {
+    order: ZEROS,
+    first: ZEROS,
+    second: ZEROS,
+    other: ZEROS,
+};
 
 // The arcs out of a node, by the nodes that they lead to: none, at a leaf of a species; one principal; two principal; a principal and a secondary one.
 #[derive(Clone, Copy)]
@@ -108,22 +116,28 @@ fn order_nodes(network: SoundNetwork) -> Column
     walk.order
 }
 
-// The arcs of a network. Above zeros the next child is the lowest.
+// The arcs of a network, into a table that is lent blank. Above zeros the next child is the lowest. (Lent, as the parts of a network are to
+// `components::part_into`.)
+#[inline(always)]
+pub fn lay_into(network: SoundNetwork, arcs: &mut Arcs)
+    requires { arcs.old ≡ blank }
+    ensures { Laid (nodes_of network.entry.lines.now) arcs.new }
+{
+    let n = network.lines.header.nodes;
+    let nodes = &network.lines.nodes;
+    arcs.order = order_nodes(network);
+    next_children(n, &nodes.principal, &ZEROS, &mut arcs.first);
+    next_children(n, &nodes.principal, &arcs.first, &mut arcs.second);
+    next_children(n, &nodes.secondary, &ZEROS, &mut arcs.other);
+}
+
+// The same, returned.
 #[tactic(auto, unfolding(finite::specs::Tables::zeros))]
 #[inline(always)]
 pub fn lay(network: SoundNetwork) -> Arcs
     ensures { Laid (nodes_of network.entry.lines.now) result }
 {
-    let n = network.lines.header.nodes;
-    let nodes = &network.lines.nodes;
-    let mut arcs = Arcs {
-        order: order_nodes(network),
-        first: ZEROS,
-        second: ZEROS,
-        other: ZEROS,
-    };
-    next_children(n, &nodes.principal, &ZEROS, &mut arcs.first);
-    next_children(n, &nodes.principal, &arcs.first, &mut arcs.second);
-    next_children(n, &nodes.secondary, &ZEROS, &mut arcs.other);
+    let mut arcs = UNFILLED;
+    lay_into(network, &mut arcs);
     arcs
 }

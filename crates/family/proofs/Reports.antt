@@ -44,6 +44,7 @@ use Rattle.histories.specs.Histories.{overall}
 use Rattle.histories.specs.Families.{family_of}
 use Rattle.histories.specs.inner.Promise.{WholeNetwork}
 use Rattle.whole_network.specs.declared.source.Source.{Source}
+use Rattle.whole_network.specs.declared.lent.LentSource.{LentSource}
 use Rattle.whole_network.specs.inner.Stages.{AcceptedIn}
 use Rattle.whole_network.specs.inner.Stages as W
 use Rattle.acceptance.specs.inner.Admitted.{Admitted}
@@ -55,7 +56,7 @@ use Rattle.report.specs.inner.Tables.{reticulation_in, tabled_report, SmallNodes
 use Rattle.report.proofs.Writing.{length_report, report_same}
 use Rattle.family.specs.Families.{Contents, network_in, gene_tree_in, family_in, reported}
 use Rattle.family.specs.Reports.{totals_in, report_in}
-use Rattle.family.specs.inner.Stages.{contents_by, Sized, Passed, totals_by, SourceOf, Written}
+use Rattle.family.specs.inner.Stages.{contents_by, Sized, Passed, totals_by, SourceOf, LentOf, Written}
 
 -- what is no reticulation is set by no setting
 plain : (N : Network) (r : ℕ) → N.secondary r ≡ 0 → (c y : ℕ) → setting_of N c y r ≡ false
@@ -68,7 +69,7 @@ pub is_source : (lines : Lines) (genes : Genes) (f : Source) → (f.lines.now �
 is_source lines genes f e t = record { same_lines = e.0; tree = rw e.1 t }
 
 -- what is filled from a source of the lines is theirs
-pub filled_from : (lines : Lines) (f : Source) → SourceOf lines f → {y z : List ℕ} {r : ℕ} → WholeNetwork (W.family f) y z r → WholeNetwork (W.family_in lines f.genes.now) y z r
+pub filled_from : (lines : Lines) (f : LentSource) → LentOf lines f → {y z : List ℕ} {r : ℕ} → WholeNetwork (W.lent_family f) y z r → WholeNetwork (W.family_in lines f.genes.now) y z r
 filled_from lines f s {y} {z} {r} t = subst (λ (l : Lines). WholeNetwork (W.family_in l f.genes.now) y z r) s.same_lines t
 
 module _ (network : PartedNetwork) (b w : ℕ) (S : Sized network.lines.now.header b w) (P : Passed (contents_by network.lines.now)) where

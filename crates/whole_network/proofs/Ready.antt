@@ -3,7 +3,7 @@
 use Rattle.std.proofs.Common.{◌≡◌, ◌∙◌, List, ℕ, ◌*◌, ◌≤◌, length, arith, mul-le-mul_right}
 use Rattle.layout.specs.declared.lines.Lines.{Lines}
 use Rattle.layout.specs.declared.genes.Genes.{Genes}
-use Rattle.layout.specs.Lines.{nodes_in}
+use Rattle.layout.specs.Lines.{nodes_in, nodes_of}
 use Rattle.layout.specs.Headers.{WithinLimits}
 use Rattle.layout.specs.inner.Genes.{gene_tree}
 use Rattle.layout.proofs.Numbered.{species_in}
@@ -15,9 +15,11 @@ use Rattle.histories.specs.Families.{family_of}
 use Rattle.histories.specs.inner.Promise.{WholeNetwork}
 use Rattle.histories.proofs.Accepted.{out_at, prepared}
 use Rattle.histories.proofs.Promise.{promise}
-use Rattle.arcs.specs.inner.Arcs.{leaving_in, order}
+use Rattle.arcs.specs.declared.Arcs.{Arcs}
+use Rattle.arcs.specs.inner.Arcs.{leaving_in, order, Laid}
 use Rattle.whole_network.specs.declared.source.Source.{Source}
-use Rattle.whole_network.specs.inner.Stages.{family_in, AcceptedIn, header, family}
+use Rattle.whole_network.specs.declared.lent.LentSource.{LentSource}
+use Rattle.whole_network.specs.inner.Stages.{family_in, AcceptedIn, header, family, lent_family}
 
 module _ (lines : Lines) (genes : Genes) (ok : AcceptedIn lines genes) where
   abbrev n : ℕ
@@ -39,14 +41,36 @@ module _ (lines : Lines) (genes : Genes) (ok : AcceptedIn lines genes) where
   pub row_within : {s u : List ℕ} → m * n ≤ length s → Kept (family_in lines genes) s u → n ≤ length u
   row_within l k = omega (arith, k.long, mul-le-mul_right n limits.some_gene)
 
+  pub within_limits : WithinLimits lines.header
+  within_limits = limits
+
+  -- over arcs that are laid out
+  module _ (a : Arcs) (laid : Laid (nodes_of lines) a) where
+    pub ready_in : Prepared (family_in lines genes) (order a)
+    ready_in = prepared _ _ _ _ ok (order a) laid.ordered.places
+
+    pub out_in : (v : ℕ) → 1 ≤ v → v ≤ n → (family_in lines genes).out v ≡ leaving_in lines.nodes a v
+    unfolding nodes_in
+    out_in v l u = out_at _ _ _ _ v l u ∙ rw (laid.firsts v l u, laid.seconds v l u, laid.others v l u, species_in n lines.nodes v l u)
+
 -- what the table of a source is filled by
 module _ (f : Source) where
   pub within : WithinLimits (header f)
-  within = limits f.lines.now f.genes.now f.accepted
+  within = within_limits f.lines.now f.genes.now f.accepted
 
   pub ready : Prepared (family f) (order f.arcs)
-  ready = prepared _ _ _ _ f.accepted (order f.arcs) f.laid.ordered.places
+  ready = ready_in f.lines.now f.genes.now f.accepted f.arcs f.laid
 
   pub out_is : (v : ℕ) → 1 ≤ v → v ≤ (header f).nodes → (family f).out v ≡ leaving_in f.lines.now.nodes f.arcs v
-  unfolding nodes_in
-  out_is v l u = out_at _ _ _ _ v l u ∙ rw (f.laid.firsts v l u, f.laid.seconds v l u, f.laid.others v l u, species_in (header f).nodes f.lines.now.nodes v l u)
+  out_is = out_in f.lines.now f.genes.now f.accepted f.arcs f.laid
+
+-- and of one that is lent
+module _ (f : LentSource) where
+  pub lent_within : WithinLimits f.lines.now.header
+  lent_within = within_limits f.lines.now f.genes.now f.accepted
+
+  pub lent_ready : Prepared (lent_family f) (order f.arcs.now)
+  lent_ready = ready_in f.lines.now f.genes.now f.accepted f.arcs.now f.laid
+
+  pub lent_out : (v : ℕ) → 1 ≤ v → v ≤ f.lines.now.header.nodes → (lent_family f).out v ≡ leaving_in f.lines.now.nodes f.arcs.now v
+  lent_out = out_in f.lines.now f.genes.now f.accepted f.arcs.now f.laid

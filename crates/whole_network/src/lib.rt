@@ -7,14 +7,16 @@ ghost use Rattle.histories.specs.inner.Promise.{WholeNetwork};
 ghost use Rattle.cell_costs.specs.inner.Costs.{cost_in};
 ghost use Rattle.arcs.specs.inner.Arcs.{order};
 ghost use Rattle.whole_network.specs.inner.Families.{AcceptedIn};
-ghost use Rattle.whole_network.specs.inner.Stages.{header, family, HasRoom, RowOf, RowsIn, PartlyIn, KeptIn, Next};
+ghost use Rattle.whole_network.specs.inner.Stages.{header, family, lent_family, HasRoom, HasRoomIn, RowOf, RowIn, RowsIn, PartlyIn, KeptIn, Next};
 
+pub mod lent;
 pub mod source;
 
 use cell_costs::Children;
 use layout::genes::Genes;
 use layout::lines::Lines;
 use layout::networks::SoundNetwork;
+use lent::LentSource;
 use source::Source;
 
 // A leaf gene of a species, or an inner gene, by where its children's rows begin.
@@ -48,11 +50,39 @@ pub fn source_of<'a>(lines: &'a Lines, genes: &'a Genes) -> Source<'a>
 }
 
 impl Source<'_> {
-    // The row of gene g. What depends on the gene alone is read here, once for all nodes.
-    #[tactic(auto, using(crate::proofs::Turns::row_low, crate::proofs::Turns::left_high, crate::proofs::Turns::right_low, crate::proofs::Turns::right_high))]
+    // The row of gene g.
     pub fn row(&self, g: usize) -> Row
         requires { (1 ≤ g) × (g ≤ (header self.now).genes) }
         ensures { RowOf self.now result × (result.gene ≡ g) }
+    {
+        let source = LentSource {
+            lines: self.lines,
+            genes: self.genes,
+            arcs: &self.arcs,
+        };
+        source.row(g)
+    }
+
+    // Fills the table of least costs in the scratch, and returns the least cost over all histories of gene 1.
+    pub fn fill(&self, scratch: &mut [u32]) -> u32
+        requires { HasRoom self.now scratch.old }
+        ensures { WholeNetwork (family self.entry.now) scratch.old scratch.new result }
+    {
+        let source = LentSource {
+            lines: self.lines,
+            genes: self.genes,
+            arcs: &self.arcs,
+        };
+        source.fill(scratch)
+    }
+}
+
+impl LentSource<'_> {
+    // The row of gene g. What depends on the gene alone is read here, once for all nodes.
+    #[tactic(auto, using(crate::proofs::Turns::row_low, crate::proofs::Turns::left_high, crate::proofs::Turns::right_low, crate::proofs::Turns::right_high))]
+    pub fn row(&self, g: usize) -> Row
+        requires { (1 ≤ g) × (g ≤ self.now.lines.now.header.genes) }
+        ensures { RowIn self.now.lines.now self.now.genes.now result × (result.gene ≡ g) }
     {
         let n = self.lines.header.nodes;
         let left = self.genes.left[g] as usize;
@@ -75,7 +105,7 @@ impl Source<'_> {
     #[tactic(auto, using(crate::proofs::Turns::node_few))]
     fn cost(&self, row: Row, i: usize, scratch: &[u32]) -> usize
         requires { Next self.now scratch.now row i }
-        ensures { cost_in result ≡ least (family self.now) row.gene (order self.now.arcs i) }
+        ensures { cost_in result ≡ least (lent_family self.now) row.gene (order self.now.arcs.now i) }
     {
         let v = self.arcs.order[i] as usize;
         let out = self.arcs.out(self.lines, v);
@@ -105,7 +135,7 @@ impl Source<'_> {
 
     // The row of gene g, from the last node of the order, for arcs out lead to later ones.
     fn fill_row(&self, g: usize, scratch: &mut [u32])
-        requires { HasRoom self.now scratch.old × (1 ≤ g) × (g ≤ (header self.now).genes) × RowsIn self.now scratch.old g }
+        requires { HasRoomIn self.now.lines.now scratch.old × (1 ≤ g) × (g ≤ self.now.lines.now.header.genes) × RowsIn self.now scratch.old g }
         ensures rows_in { RowsIn self.now scratch.new (g - 1) }
         ensures kept_in { KeptIn self.now scratch.old scratch.new }
     {
@@ -117,7 +147,7 @@ impl Source<'_> {
 
     // All rows: genes from the last to the first, for children have higher numbers.
     fn fill_rows(&self, scratch: &mut [u32])
-        requires { HasRoom self.now scratch.old }
+        requires { HasRoomIn self.now.lines.now scratch.old }
         ensures rows_in { RowsIn self.now scratch.new 0 }
         ensures kept_in { KeptIn self.now scratch.old scratch.new }
     {
@@ -128,8 +158,8 @@ impl Source<'_> {
 
     // Fills the table of least costs in the scratch, and returns the least cost over all histories of gene 1.
     pub fn fill(&self, scratch: &mut [u32]) -> u32
-        requires { HasRoom self.now scratch.old }
-        ensures { WholeNetwork (family self.entry.now) scratch.old scratch.new result }
+        requires { HasRoomIn self.now.lines.now scratch.old }
+        ensures { WholeNetwork (lent_family self.entry.now) scratch.old scratch.new result }
     {
         self.fill_rows(scratch);
         cell_costs::least_start(self.lines.header.nodes, scratch)

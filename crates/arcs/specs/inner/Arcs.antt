@@ -1,7 +1,7 @@
 -- The arcs of a network: of each node the nodes that its arcs out lead to, and an order of the nodes.
 -- Assumes nothing.
 use Rattle.std.specs.Prelude.{◌≡◌, ℕ, ◌≤◌}
-use Rattle.finite.specs.Tables.{at}
+use Rattle.finite.specs.Tables.{at, zeros}
 use Rattle.topology.specs.Networks.{Network, Node}
 use Rattle.topology.specs.Lines.{NodeLines, network}
 use Rattle.layout.specs.declared.lines.NodeColumns.{NodeColumns}
@@ -23,6 +23,10 @@ second a = at a.second
 
 abbrev pub other : Arcs → ℕ → ℕ
 other a = at a.other
+
+-- a table without entries
+abbrev pub blank : Arcs
+blank = record { order = zeros; first = zeros; second = zeros; other = zeros }
 
 -- the arcs out of a node as the definitions of histories have them
 abbrev pub leaving : Out → Leaving

@@ -3,5 +3,8 @@
 use Rattle.family.proofs.Reports.{whole_ready}
 use Rattle.family.proofs.write.Goals as goal
 
-pub source_of-source-requires : goal.source_of-source-requires
-source_of-source-requires c = whole_ready c.args.network _ _ c.requires.0 c.requires.1 _ c.build_into.ensures
+pub invariant_of-lay_into : goal.invariant_of-lay_into
+invariant_of-lay_into c = record { sound = c.args.network.sound }
+
+pub invariant_of-source : goal.invariant_of-source
+invariant_of-source c = record { accepted = whole_ready c.args.network _ _ c.requires.0 c.requires.1 _ c.build_into.ensures; laid = c.lay_into.ensures }

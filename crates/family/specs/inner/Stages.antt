@@ -15,6 +15,7 @@ use Rattle.layout.specs.declared.parts.Parts.{Parts}
 use Rattle.layout.specs.inner.Genes.{gene_tree}
 use Rattle.gene_tree.specs.Genes.{gene_tree_of}
 use Rattle.whole_network.specs.declared.source.Source.{Source}
+use Rattle.whole_network.specs.declared.lent.LentSource.{LentSource}
 use Rattle.network.specs.Refusals.{network_refusals}
 use Rattle.components.specs.Refusals.{component_refusals}
 use Rattle.gene_tree.specs.Refusals.{gene_refusals}
@@ -43,6 +44,11 @@ pub record Passed (X : Contents) : Type 0 where
 
 -- the genes and the arcs from which the whole network is filled are those of the lines
 pub record SourceOf (lines : Lines) (source : Source) : Type 0 where
+  pub same_lines : source.lines.now ≡ lines
+  pub tree : gene_tree lines.header.genes source.genes.now ≡ gene_tree_of (nodes_of lines) (genes_of lines)
+
+-- the same of a source that is lent
+pub record LentOf (lines : Lines) (source : LentSource) : Type 0 where
   pub same_lines : source.lines.now ≡ lines
   pub tree : gene_tree lines.header.genes source.genes.now ≡ gene_tree_of (nodes_of lines) (genes_of lines)
 

@@ -1,8 +1,8 @@
--- `whole_network::source::Source::fill_word` meets its contract. The word is put at the cell of the gene and the node.
+-- `whole_network::lent::LentSource::fill_word` meets its contract. The word is put at the cell of the gene and the node.
 -- Assumes nothing.
 use Rattle.std.proofs.Common.{◌∙◌}
 use Rattle.whole_network.proofs.Turns.{node_low, word_inside, word_put}
-use Rattle.whole_network.proofs.source.Source.fill_word.Goals as goal
+use Rattle.whole_network.proofs.lent.LentSource.fill_word.Goals as goal
 
 pub overflow_sub-scratch : goal.overflow_sub-scratch
 overflow_sub-scratch c = node_low c.requires

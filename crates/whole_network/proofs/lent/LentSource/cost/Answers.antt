@@ -1,13 +1,13 @@
--- `whole_network::source::Source::cost` meets its contract. The parts lent from the rows' starts on are the rows, and the cost of the clauses is the least,
+-- `whole_network::lent::LentSource::cost` meets its contract. The parts lent from the rows' starts on are the rows, and the cost of the clauses is the least,
 -- for what it is computed from is filled before.
 -- Assumes nothing.
 use Rattle.std.proofs.Common.{◌∙◌, arith}
-use Rattle.whole_network.proofs.Ready.{within}
+use Rattle.whole_network.proofs.Ready.{lent_within}
 use Rattle.whole_network.proofs.Turns.{own_ends, left_starts, right_starts, child_rows, tip_least, inner_least}
-use Rattle.whole_network.proofs.source.Source.cost.Goals as goal
+use Rattle.whole_network.proofs.lent.LentSource.cost.Goals as goal
 
 pub tip_cost-requires : goal.tip_cost-requires
-tip_cost-requires c = (within c.args.self.now, rw c.out-out.ensures (own_ends c.requires))
+tip_cost-requires c = (lent_within c.args.self.now, rw c.out-out.ensures (own_ends c.requires))
 
 -- each part is lent under three bounds, which do not name the row that they follow from, so that no `using` finds it
 pub offset_bounds-scratch-a : goal.offset_bounds-scratch-a
@@ -30,7 +30,7 @@ slice_bounds-children-start-in-Pair c = right_starts c.requires _ _ c.in-Pair.is
 
 pub inner_cost-requires : goal.inner_cost-requires
 inner_cost-requires c =
-    let rows = child_rows c.requires _ _ c.in-Pair.is in (within c.args.self.now, rw c.out-out.ensures (own_ends c.requires), rows.0, rw c.out-out.ensures rows.1)
+    let rows = child_rows c.requires _ _ c.in-Pair.is in (lent_within c.args.self.now, rw c.out-out.ensures (own_ends c.requires), rows.0, rw c.out-out.ensures rows.1)
 
 pub returns-in-Tip : goal.returns-in-Tip
 returns-in-Tip c = rw c.out-out.ensures at c.tip_cost.ensures ∙ tip_least c.requires _ c.in-Tip.is

@@ -4,7 +4,7 @@ use Rattle.std.proofs.Common.{refl}
 use Rattle.finite.specs.Tables.{zeros}
 use Rattle.layout.specs.inner.Results.{blank}
 use Rattle.family.proofs.Reports.{prepares, filled_from, nodes_small, genes_small, report_room, totals_fit, written_family}
-use Rattle.family.proofs.write_from.Goals as goal
+use Rattle.family.proofs.write_with.Goals as goal
 
 pub invariant_of-given : goal.invariant_of-given
 invariant_of-given c = let S = c.requires.0 in let P = c.requires.1 in record { prepared = prepares c.args.network _ _ S P _ c.requires.2.tree }

@@ -2,7 +2,7 @@
 use Rattle.std.proofs.Common.{arith}
 use Rattle.histories.proofs.Filling.{kept_none}
 use Rattle.whole_network.proofs.Turns.{row_begun, row_done}
-use Rattle.whole_network.proofs.source.Source.fill_row.Goals as goal
+use Rattle.whole_network.proofs.lent.LentSource.fill_row.Goals as goal
 
 pub loop-i-init : goal.loop-i-init
 loop-i-init c = (row_begun c.args.self.now c.requires.3, kept_none _ _)

@@ -1,7 +1,7 @@
--- `whole_network::source::Source::fill` meets its contract. The rows filled are those of the family, and the promise follows.
+-- `whole_network::lent::LentSource::fill` meets its contract. The rows filled are those of the family, and the promise follows.
 -- Assumes nothing.
 use Rattle.whole_network.proofs.Ready.{row_within, kept_promise}
-use Rattle.whole_network.proofs.source.Source.fill.Goals as goal
+use Rattle.whole_network.proofs.lent.LentSource.fill.Goals as goal
 
 pub least_start-requires : goal.least_start-requires
 least_start-requires c = let f = c.args.self.now in row_within f.lines.now f.genes.now f.accepted c.requires c.fill_rows.ensures.kept_in
