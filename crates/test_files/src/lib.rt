@@ -7,23 +7,40 @@ use std::fs::File;
 use std::rt::Files;
 use std::{io, str};
 
-// A file's name is at most so long, with its ending: it is put together without allocating.
+// A file's name is at most so long, with its ending, where no room is lent for the path: it is put together without allocating.
 const PATH: usize = 64;
 
-// Opens the file that the name and the ending name, if it can be opened.
-fn open<R: Files>(rt: &R, name: &str, ending: &[u8]) -> Option<R::File> {
+// Opens the file that the name and the ending name, if they fit what is lent for its path and it can be opened.
+fn open<R: Files>(rt: &R, name: &str, ending: &[u8], path: &mut [u8]) -> Option<R::File> {
     let length = name.len().checked_add(ending.len())?;
-    if length > PATH {
+    if length > path.len() {
         return None;
     }
-    let mut path = [0u8; PATH];
     path[..name.len()].copy_from_slice(name.as_bytes());
     path[name.len()..length].copy_from_slice(ending);
     let path = str::from_utf8(&path[..length]).ok()?;
     File::open(rt, path).ok()
 }
 
-// Reads the front of that file, as much as what is lent holds: how many bytes that is, or nothing where there is no such file that can be opened.
+// Reads the front of that file, as much as what is lent holds: how many bytes that is, or nothing where there is no such file that can be opened. (The path is
+// put together in what is lent for it, so that a name may have any length; where it does not fit there, the file counts as missing.)
+pub fn read_long<R: Files>(
+    rt: &R,
+    name: &str,
+    ending: &[u8],
+    path: &mut [u8],
+    into: &mut [u8],
+) -> io::Result<Option<usize>>
+    ensures fits { IfOk result (λ got. IfSome got (λ bytes. bytes ≤ length into.old)) }
+    ensures kept { (length path.new ≡ length path.old) × (length into.new ≡ length into.old) }
+{
+    let Some(file) = open(rt, name, ending, path) else {
+        return Ok(None);
+    };
+    Ok(Some(input::read_full(file, into)?))
+}
+
+// The same with 64 bytes for the path: a file whose name has more with its ending counts as missing.
 pub fn read<R: Files>(
     rt: &R,
     name: &str,
@@ -33,13 +50,30 @@ pub fn read<R: Files>(
     ensures fits { IfOk result (λ got. IfSome got (λ bytes. bytes ≤ length into.old)) }
     ensures kept { length into.new ≡ length into.old }
 {
-    let Some(file) = open(rt, name, ending) else {
-        return Ok(None);
-    };
-    Ok(Some(input::read_full(file, into)?))
+    read_long(rt, name, ending, &mut [0u8; PATH], into)
 }
 
-// The same of a sheet and the tree beside it: how many bytes each is, or nothing where one of them is not there.
+// Reads a sheet and the tree beside it: how many bytes each is, or nothing where one of them is not there.
+pub fn read_long_with_tree<R: Files>(
+    rt: &R,
+    name: &str,
+    path: &mut [u8],
+    sheet: &mut [u8],
+    tree: &mut [u8],
+) -> io::Result<Option<(usize, usize)>>
+    ensures fits { IfOk result (λ got. IfSome got (λ bytes. (bytes.0 ≤ length sheet.old) × (bytes.1 ≤ length tree.old))) }
+    ensures kept { (length path.new ≡ length path.old) × (length sheet.new ≡ length sheet.old) × (length tree.new ≡ length tree.old) }
+{
+    let Some(sheet_bytes) = read_long(rt, name, b".sheet", path, sheet)? else {
+        return Ok(None);
+    };
+    let Some(tree_bytes) = read_long(rt, name, b".tree", path, tree)? else {
+        return Ok(None);
+    };
+    Ok(Some((sheet_bytes, tree_bytes)))
+}
+
+// The same with 64 bytes for the path.
 pub fn read_with_tree<R: Files>(
     rt: &R,
     name: &str,
@@ -49,11 +83,5 @@ pub fn read_with_tree<R: Files>(
     ensures fits { IfOk result (λ got. IfSome got (λ bytes. (bytes.0 ≤ length sheet.old) × (bytes.1 ≤ length tree.old))) }
     ensures kept { (length sheet.new ≡ length sheet.old) × (length tree.new ≡ length tree.old) }
 {
-    let Some(sheet_bytes) = read(rt, name, b".sheet", sheet)? else {
-        return Ok(None);
-    };
-    let Some(tree_bytes) = read(rt, name, b".tree", tree)? else {
-        return Ok(None);
-    };
-    Ok(Some((sheet_bytes, tree_bytes)))
+    read_long_with_tree(rt, name, &mut [0u8; PATH], sheet, tree)
 }
